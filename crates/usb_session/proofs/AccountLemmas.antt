@@ -1,27 +1,29 @@
 -- What endpoints and futures hold stays accounted for over each answer.
 use Rattle.std.proofs.Common.{◌≡◌, ◌≢◌, ℕ, ◌≤◌, ◌+◌, suc, zero, arith, List, [], ◌∷◌, ◌++◌, length, drop, Option, Some, None, true, refl, ap, sym, ◌∙◌, subst, slice_get, inl, inr, ◌⊎◌}
 use Rattle.std.specs.List.{Contains}
-use Rattle.std.specs.Option.{option_map}
 use Rattle.std.proofs.lemmas.Bool.{cases_eq}
 use Rattle.std.proofs.lemmas.List.Elements.{Contains-append_left, Contains-push}
 use Rattle.std.proofs.lemmas.Option.{none-some, same_Some}
 use Rattle.usb_xfer.specs.BufferState.{BufferState}
 use Rattle.usb_xfer.specs.declared.transfer.TransferData.{TransferData}
+use Rattle.usb_device_endpoint.specs.Closes.{after_close}
+use Rattle.usb_device_endpoint.specs.Submits.{entered}
 use Rattle.usb_device_host.specs.HostState.{HostState}
+use Rattle.usb_device_host.specs.HostCalls.{host_calls}
+use Rattle.usb_device_host.specs.TicketEnds.{host_taken}
 use Rattle.usb_device_host.specs.HostBus.{owner_at}
 use Rattle.usb_device_host.specs.Controls.{control_submission}
 use Rattle.usb_device_host.proofs.CountLemmas.{CountsOneMore, taken-count, closed-count, entered-count}
 use Rattle.usb_device_host.proofs.HeldLemmas.{taken-held, Contains-behind, closed-held, entered-held}
 use Rattle.usb_device_host.proofs.StartedLemmas.{Parts, AddsTaken, started-count, started-owner, holds-follows}
 use Rattle.usb_device.specs.Futures.{FutureState, fresh_future}
-use Rattle.usb_session_calls.specs.Names.{named, is_free, change_named, freed, set_name}
+use Rattle.usb_session_calls.specs.Names.{named, is_free, freed, set_name}
+use Rattle.usb_session_calls.specs.EndpointNames.{EndpointName, Own, OfReader, OfWriter, endpoint_under}
 use Rattle.usb_session_calls.specs.State.{State, Endpoint, endpoint_state, pending, tickets_of, with_host}
 use Rattle.usb_session_calls.specs.Answer.{Answer}
-use Rattle.usb_session_calls.specs.Submits.{submitted, with_submission}
-use Rattle.usb_session_calls.specs.Polls.{one_taken, taken_from}
-use Rattle.usb_session_calls.specs.Closes.{without_endpoint, closed}
-use Rattle.usb_session_calls.specs.ReaderAt.{reader_place}
-use Rattle.usb_session_calls.specs.WriterAt.{writer_place}
+use Rattle.usb_session_calls.specs.Submits.{with_submission}
+use Rattle.usb_session_calls.specs.Polls.{one_taken}
+use Rattle.usb_session_calls.specs.Closes.{closed}
 use Rattle.usb_session_calls.specs.Readers.{reader_closed}
 use Rattle.usb_session_calls.specs.Writers.{writer_closed}
 use Rattle.usb_session.specs.Below.{below}
@@ -30,8 +32,9 @@ use Rattle.usb_session.specs.Ends.{readers_closed, writers_closed, endpoints_clo
 use Rattle.usb_session.specs.Output.{start}
 use Rattle.usb_session.specs.Accounts.{Covered, IsAwaited, Accounted, StartIsAccounted, AnswerKeepsAccounts, CloseKeepsAccounts}
 use Rattle.usb_session.specs.Served.{ClosedEndpoint}
-use Rattle.usb_session_calls.proofs.NameLemmas.{named_of, free_place, named-change_same, named-change_other, named-freed_other, named-set, named-set_other}
-use Rattle.usb_session.proofs.Does.{Quiet, Closing, ControlMove, Acts, SameTickets, moved, without_future_of, goes, opens, submits, fits, reads, starts, controls, frees, ends, takes, closes, moves, free-still}
+use Rattle.usb_session_calls.proofs.NameLemmas.{named_of, free_place, named-freed_other, named-set, named-set_other}
+use Rattle.usb_session_calls.proofs.EndpointNameLemmas.{Changed, cases_name}
+use Rattle.usb_session.proofs.Does.{Quiet, Changes, MovesTo, Closing, ControlMove, Acts, SameTickets, without_future_of, at-host, goes, opens, submits, fits, reads, starts, controls, frees, ends, takes, closes, moves}
 use Rattle.usb_session.proofs.DeviceLines.{handles-quiet}
 use Rattle.usb_session.proofs.EndpointLines.{closed-does}
 use Rattle.usb_session.proofs.ControlLines.{future_closed_under-does}
@@ -46,49 +49,55 @@ accounted-start items = record { held = λ t key own. absurd (none-some key own)
 
 -- a ticket is pending at an endpoint that is open under a name, or that of a future
 abbrev Has : State → ℕ → ℕ → Type 0
-Has state t key = Covered state.endpoints t key ⊎ IsAwaited state.futures t key
+Has state t key = Covered (endpoint_under state) t key ⊎ IsAwaited state.futures t key
 
 either : {A B C D : Type 0} → (A → C) → (B → D) → A ⊎ B → C ⊎ D
 either f g (inl a) = inl (f a)
 either f g (inr b) = inr (g b)
 
+-- so it is where what covers it covers it still, and the futures are the same
+still-awaited : {old new : EndpointName → Option Endpoint} {before after : List (Option FutureState)} {t key : ℕ} → after ≡ before → (Covered old t key → Covered new t key) → Covered old t key ⊎ IsAwaited before t key → Covered new t key ⊎ IsAwaited after t key
+still-awaited {t = t} {key} futures covers has = either covers (subst (λ l. IsAwaited l t key) (sym futures)) has
+
+covered-same : {old new : EndpointName → Option Endpoint} {t key : ℕ} (c : Covered old t key) → new c.name ≡ old c.name → Covered new t key
+covered-same c same = record { name = c.name; entry = c.entry; at = same ∙ c.at; key_is = c.key_is; in_pending = c.in_pending }
+
 accounted-quiet : {state next : State} → Quiet state next → Accounted state → Accounted next
 accounted-quiet {state} {next} quiet a =
     record {
-      held = λ t key own.
-          either (subst (λ l. Covered l t key) (sym quiet.endpoints)) (subst (λ l. IsAwaited l t key) (sym quiet.futures))
-          (a.held t key (holds-follows state.host next.host quiet.keeps quiet.count t key own));
+      held = λ t key own. still-awaited quiet.futures (λ c. covered-same c (quiet.endpoints c.name)) (a.held t key (holds-follows state.host next.host quiet.keeps quiet.count t key own));
       count = quiet.count.count ∙ a.count ∙ sym quiet.count.past;
     }
 
--- an endpoint is opened under a name that is free
-covered-set : (endpoints : List (Option Endpoint)) (e : ℕ) (x : Endpoint) (t key : ℕ) → is_free endpoints e ≡ true → Covered endpoints t key → Covered (set_name endpoints e x) t key
-covered-set endpoints e x t key free c =
-    elim (cases_eq c.name e) [
-      | inl same ↦ absurd (none-some c.entry (sym (named_of endpoints e None (free_place endpoints e free)) ∙ ap (named endpoints) (sym same) ∙ c.at))
-      | inr apart ↦ record { name = c.name; entry = c.entry; at = named-set_other endpoints e c.name x apart ∙ c.at; key_is = c.key_is; in_pending = c.in_pending }
-    ]
+-- an endpoint is open under a name under which none was
+covered-set : {old new : EndpointName → Option Endpoint} {e : EndpointName} {o : Option Endpoint} {t key : ℕ} → old e ≡ None → Changed old new e o → Covered old t key → Covered new t key
+covered-set {old} {new} {e} free changed c =
+    covered-same c (changed.others c.name (λ same. none-some c.entry (sym free ∙ ap old (sym same) ∙ c.at)))
 
-accounted-open : (state : State) (e : ℕ) (x : Endpoint) → is_free state.endpoints e ≡ true → Accounted state → Accounted (record state { endpoints = set_name state.endpoints e x })
-accounted-open state e x free a = record { held = λ t key own. either (covered-set state.endpoints e x t key free) (λ w. w) (a.held t key own); count = a.count }
+accounted-open : {state next : State} (e : EndpointName) (x : Endpoint) → endpoint_under state e ≡ None → Changes state next state.host e (Some x) → Accounted state → Accounted next
+accounted-open e x free changes a =
+    at-host Accounted changes (record { held = λ t key own. still-awaited changes.futures (covered-set free changes.endpoints) (a.held t key own); count = a.count })
 
 -- an endpoint was called, and has the ticket still
-covered-entry : {endpoints : List (Option Endpoint)} {t key : ℕ} (c : Covered endpoints t key) (e : ℕ) (h : Endpoint) → named endpoints e ≡ Some h → c.name ≡ e → c.entry ≡ h
-covered-entry {endpoints} c e h here same = same_Some c.entry h (sym c.at ∙ ap (named endpoints) same ∙ here)
+covered-entry : {opened : EndpointName → Option Endpoint} {t key : ℕ} (c : Covered opened t key) (e : EndpointName) (h : Endpoint) → opened e ≡ Some h → c.name ≡ e → c.entry ≡ h
+covered-entry {opened} c e h here same = same_Some c.entry h (sym c.at ∙ ap opened same ∙ here)
 
-covered-change : (endpoints : List (Option Endpoint)) (f : Endpoint → Endpoint) (e : ℕ) (h : Endpoint) (t key : ℕ) → named endpoints e ≡ Some h → (f h).key ≡ h.key → (Contains (pending h) t → Contains (pending (f h)) t) → Covered endpoints t key → Covered (change_named f endpoints e) t key
-covered-change endpoints f e h t key here same_key stays c =
-    elim (cases_eq c.name e) [
-      | inl same ↦
-          let entry = covered-entry c e h here same in
-          record {
-            name = e;
-            entry = f h;
-            at = named-change_same f endpoints e ∙ ap (option_map f) here;
-            key_is = same_key ∙ sym (ap (λ (x : Endpoint). x.key) entry) ∙ c.key_is;
-            in_pending = stays (subst (λ (x : Endpoint). Contains (pending x) t) entry c.in_pending);
-          }
-      | inr apart ↦ record { name = c.name; entry = c.entry; at = named-change_other f endpoints e c.name apart ∙ c.at; key_is = c.key_is; in_pending = c.in_pending }
+covered-now : {old new : EndpointName → Option Endpoint} {t key : ℕ} (c : Covered old t key) (e d : EndpointName) (h g : Endpoint) → old e ≡ Some h → new d ≡ Some g → g.key ≡ h.key → (Contains (pending h) t → Contains (pending g) t) → c.name ≡ e → Covered new t key
+covered-now {t = t} c e d h g here now same_key stays same =
+    let entry = covered-entry c e h here same in
+    record {
+      name = d;
+      entry = g;
+      at = now;
+      key_is = same_key ∙ sym (ap (λ (x : Endpoint). x.key) entry) ∙ c.key_is;
+      in_pending = stays (subst (λ (x : Endpoint). Contains (pending x) t) entry c.in_pending);
+    }
+
+covered-change : {old new : EndpointName → Option Endpoint} {t key : ℕ} (e : EndpointName) (h g : Endpoint) → old e ≡ Some h → Changed old new e (Some g) → g.key ≡ h.key → (Contains (pending h) t → Contains (pending g) t) → Covered old t key → Covered new t key
+covered-change e h g here changed same_key stays c =
+    elim (cases_name c.name e) [
+      | inl same ↦ covered-now c e e h g here changed.here same_key stays same
+      | inr apart ↦ covered-same c (changed.others c.name apart)
     ]
 
 -- a ticket more at the end
@@ -103,24 +112,24 @@ pushed-old n xs x y within there = subst (λ l. Contains l y) (sym (drop-push n 
 pushed-new : (n : ℕ) (xs : List ℕ) (x : ℕ) → n ≤ length xs → Contains (drop n (xs ++ x ∷ [])) x
 pushed-new n xs x within = subst (λ l. Contains l x) (sym (drop-push n xs x within)) (Contains-push (drop n xs) x)
 
-accounted-submit : (state : State) (e : ℕ) (b : BufferState) (h : Endpoint) → named state.endpoints e ≡ Some h → h.taken ≤ length h.tickets → Accounted state → Accounted (submitted state e b h)
-accounted-submit state e b h here few a =
+accounted-submit : {state next : State} (e : EndpointName) (b : BufferState) (h : Endpoint) → endpoint_under state e ≡ Some h → h.taken ≤ length h.tickets → Changes state next (entered host_calls state.host (endpoint_state h) b) e (Some (with_submission (tickets_of state) h)) → Accounted state → Accounted next
+accounted-submit {state} e b h here few changes a =
     let n = tickets_of state in
     let one = entered-count state.host (endpoint_state h) b in
-    record {
+    at-host Accounted changes (record {
       held = λ t key own.
           elim (entered-held state.host (endpoint_state h) b t key own) [
             | inl new ↦ inl record {
               name = e;
               entry = with_submission n h;
-              at = named-change_same (with_submission n) state.endpoints e ∙ ap (option_map (with_submission n)) here;
+              at = changes.endpoints.here;
               key_is = sym new.1;
               in_pending = subst (λ (u : ℕ). Contains (drop h.taken (h.tickets ++ n ∷ [])) u) (sym (new.0 ∙ a.count)) (pushed-new h.taken h.tickets n few);
             }
-            | inr old ↦ either (covered-change state.endpoints (with_submission n) e h t key here refl (pushed-old h.taken h.tickets n t few)) (λ w. w) (a.held t key old)
+            | inr old ↦ still-awaited changes.futures (covered-change e h (with_submission n h) here changes.endpoints refl (pushed-old h.taken h.tickets n t few)) (a.held t key old)
           ];
       count = one.count ∙ ap (λ m. m + 1) a.count ∙ sym one.past;
-    }
+    })
 
 -- the ticket at the place of those that were taken is taken
 behind : (n : ℕ) (xs : List ℕ) (t u : ℕ) → slice_get xs n ≡ Some t → u ≢ t → Contains (drop n xs) u → Contains (drop (suc n) xs) u
@@ -132,33 +141,33 @@ one_taken-stays : (h : Endpoint) (t u : ℕ) → slice_get h.tickets h.taken ≡
 one_taken-stays h t u front apart there =
     let more : h.taken + 1 ≡ suc h.taken = omega arith in rw more (behind h.taken h.tickets t u front apart there)
 
-accounted-take : (state : State) (e t : ℕ) (h : Endpoint) → named state.endpoints e ≡ Some h → slice_get h.tickets h.taken ≡ Some t → Accounted state → Accounted (taken_from state e t)
-accounted-take state e t h here front a =
+accounted-take : {state next : State} (e : EndpointName) (t : ℕ) (h : Endpoint) → endpoint_under state e ≡ Some h → slice_get h.tickets h.taken ≡ Some t → Changes state next (host_taken state.host t) e (Some (one_taken h)) → Accounted state → Accounted next
+accounted-take {state} e t h here front changes a =
     let keeps = taken-count state.host t in
-    record {
+    at-host Accounted changes (record {
       held = λ u key own.
           let was = taken-held state.host t u key own in
-          either (covered-change state.endpoints one_taken e h u key here refl (one_taken-stays h t u front was.0)) (λ w. w) (a.held u key was.1);
+          still-awaited changes.futures (covered-change e h (one_taken h) here changes.endpoints refl (one_taken-stays h t u front was.0)) (a.held u key was.1);
       count = keeps.count ∙ a.count ∙ sym keeps.past;
-    }
+    })
 
 -- an endpoint is closed, and holds nothing any more
-covered-freed : (endpoints : List (Option Endpoint)) (e : ℕ) (h : Endpoint) (t key : ℕ) → named endpoints e ≡ Some h → (Contains (pending h) t → ⊥) → Covered endpoints t key → Covered (freed endpoints e) t key
-covered-freed endpoints e h t key here gone c =
-    elim (cases_eq c.name e) [
+covered-freed : {old new : EndpointName → Option Endpoint} {t key : ℕ} (e : EndpointName) (h : Endpoint) → old e ≡ Some h → Changed old new e None → (Contains (pending h) t → ⊥) → Covered old t key → Covered new t key
+covered-freed {t = t} e h here changed gone c =
+    elim (cases_name c.name e) [
       | inl same ↦ absurd (gone (subst (λ (x : Endpoint). Contains (pending x) t) (covered-entry c e h here same) c.in_pending))
-      | inr apart ↦ record { name = c.name; entry = c.entry; at = named-freed_other endpoints e c.name apart ∙ c.at; key_is = c.key_is; in_pending = c.in_pending }
+      | inr apart ↦ covered-same c (changed.others c.name apart)
     ]
 
-accounted-close : (state : State) (e : ℕ) (h : Endpoint) → named state.endpoints e ≡ Some h → Accounted state → Accounted (without_endpoint state e h)
-accounted-close state e h here a =
+accounted-close : {state next : State} (e : EndpointName) (h : Endpoint) → endpoint_under state e ≡ Some h → Changes state next (after_close host_calls state.host (endpoint_state h)) e None → Accounted state → Accounted next
+accounted-close {state} e h here changes a =
     let keeps = closed-count state.host (endpoint_state h) in
-    record {
+    at-host Accounted changes (record {
       held = λ t key own.
           let was = closed-held state.host (endpoint_state h) t key own in
-          either (covered-freed state.endpoints e h t key here was.1) (λ w. w) (a.held t key was.0);
+          still-awaited changes.futures (covered-freed e h here changes.endpoints was.1) (a.held t key was.0);
       count = keeps.count ∙ a.count ∙ sym keeps.past;
-    }
+    })
 
 -- a control transfer is handed in, and its future is open under a name that was free
 awaited-set : (futures : List (Option FutureState)) (n : ℕ) (x : FutureState) (t key : ℕ) → is_free futures n ≡ true → IsAwaited futures t key → IsAwaited (set_name futures n x) t key
@@ -215,48 +224,40 @@ accounted-free state n f host here parts a =
       count = parts.count.count ∙ a.count ∙ sym parts.count.past;
     }
 
--- an endpoint goes to another place, which was free
-accounted-move : (state : State) (from to : ℕ) (h g : Endpoint) → named state.endpoints from ≡ Some h → is_free state.endpoints to ≡ true → SameTickets h g → Accounted state → Accounted (moved state from to g)
-accounted-move state from to h g here free same a =
-    let mid = freed state.endpoints from in
-    let still = free-still state.endpoints from to h here free in
+-- an endpoint goes to another name, which was free
+accounted-move : {state next : State} (from to : EndpointName) (h g : Endpoint) → endpoint_under state from ≡ Some h → endpoint_under state to ≡ None → SameTickets h g → MovesTo state next from to g → Accounted state → Accounted next
+accounted-move {state} {next} from to h g here free same moved a =
     let all : pending h ≡ pending g = ap (λ (n : ℕ). drop n h.tickets) (sym same.taken) ∙ ap (λ (l : List ℕ). drop g.taken l) (sym same.tickets) in
-    let covered : (t key : ℕ) → Covered state.endpoints t key → Covered (set_name mid to g) t key = λ t key c. elim (cases_eq c.name from) [
-      | inl at ↦
-          let entry = covered-entry c from h here at in
-          record {
-            name = to;
-            entry = g;
-            at = named-set mid to g still;
-            key_is = same.key ∙ (sym (ap (λ (x : Endpoint). x.key) entry) ∙ c.key_is);
-            in_pending = subst (λ (l : List ℕ). Contains l t) all (subst (λ (x : Endpoint). Contains (pending x) t) entry c.in_pending);
-          }
-      | inr away ↦ covered-set mid to g t key still (record { name = c.name; entry = c.entry; at = named-freed_other state.endpoints from c.name away ∙ c.at; key_is = c.key_is; in_pending = c.in_pending })
+    let covered : (t key : ℕ) → Covered (endpoint_under state) t key → Covered (endpoint_under next) t key = λ t key c. elim (cases_name c.name from) [
+      | inl at ↦ covered-now c from to h g here moved.put.endpoints.here same.key (subst (λ (l : List ℕ). Contains l t) all) at
+      | inr away ↦
+          let off : c.name ≢ to = λ is. none-some c.entry (sym free ∙ ap (endpoint_under state) (sym is) ∙ c.at) in
+          covered-same c (moved.put.endpoints.others c.name off ∙ moved.gone.endpoints.others c.name away)
     ] in
-    record { held = λ t key own. either (covered t key) (λ w. w) (a.held t key own); count = a.count }
+    at-host Accounted moved.put (record { held = λ t key own. still-awaited (moved.put.futures ∙ moved.gone.futures) (covered t key) (a.held t key own); count = a.count })
 
 -- so over each answer
 acts-accounted : {few : Type 0} {a : Answer} {state : State} {closed : List ClosedEndpoint} {handed : List ControlMove} → few → Acts few a state closed handed → Accounted state → Accounted a.state
 acts-accounted few (goes quiet rest) acc = acts-accounted few rest (accounted-quiet quiet acc)
 acts-accounted few (fits other rest) acc = acts-accounted few (rest few) acc
-acts-accounted {state} few (reads e t h above here front other rest) acc = acts-accounted few rest (accounted-take state e t h here front acc)
-acts-accounted {state} few (moves from to h g here free same read other quiet) acc = accounted-quiet quiet (accounted-move state from to h g here free same acc)
-acts-accounted {state} few (opens e x free none zero_ outside rest) acc = acts-accounted few rest (accounted-open state e x free acc)
-acts-accounted {state} few (submits e b h here within rest) acc = acts-accounted few rest (accounted-submit state e b h here (within few) acc)
+acts-accounted few (reads e t h stream here front other changes rest) acc = acts-accounted few rest (accounted-take e t h here front changes acc)
+acts-accounted few (moves from to h g here free same read other moved quiet) acc = accounted-quiet quiet (accounted-move from to h g here free same moved acc)
+acts-accounted few (opens e x free none zero_ changes rest) acc = acts-accounted few rest (accounted-open (Own e) x free changes acc)
+acts-accounted few (submits e b h here within changes rest) acc = acts-accounted few rest (accounted-submit e b h here (within few) changes acc)
 acts-accounted {state} few (starts n request timeout device free rest) acc = acts-accounted few rest (accounted-start_future state n request timeout device free acc)
 acts-accounted {state} few (controls host one adds rest) acc = acts-accounted few rest (accounted-control state host one (adds acc.count) acc)
 acts-accounted {state} few (frees n f host here parts rest) acc = acts-accounted few rest (accounted-free state n f host here parts acc)
 acts-accounted few (ends other quiet) acc = accounted-quiet quiet acc
-acts-accounted {state} few (takes e t h c here front came line quiet) acc = accounted-quiet quiet (accounted-take state e t h here (front few) acc)
-acts-accounted {state} few (closes e h lines here other quiet) acc = accounted-quiet quiet (accounted-close state e h here acc)
+acts-accounted few (takes e t h c here front came line changes quiet) acc = accounted-quiet quiet (accounted-take e t h here (front few) changes acc)
+acts-accounted few (closes e h lines here other changes quiet) acc = accounted-quiet quiet (accounted-close e h here changes acc)
 
 pub accounted-answer : AnswerKeepsAccounts
 accounted-answer state item few a = acts-accounted few (answer-does state (λ e. []) item) a
 
 -- and over the closes at the end
-accounted-below : (act : State → ℕ → State) (place : ℕ → ℕ) → Closing act place → (state : State) (k : ℕ) → Accounted state → Accounted (below act state k)
-accounted-below act place closing state zero a = a
-accounted-below act place closing state (suc k) a = acts-accounted tt (closing (below act state k) k (λ e. [])) (accounted-below act place closing state k a)
+accounted-below : (act : State → ℕ → State) (name : ℕ → EndpointName) → Closing act name → (state : State) (k : ℕ) → Accounted state → Accounted (below act state k)
+accounted-below act name closing state zero a = a
+accounted-below act name closing state (suc k) a = acts-accounted tt (closing (below act state k) k (λ e. [])) (accounted-below act name closing state k a)
 
 accounted-futures : (state : State) (n : ℕ) → Accounted state → Accounted (futures_closed state n)
 accounted-futures state zero a = a
@@ -270,10 +271,10 @@ accounted-all_closed state a =
     let mid = endpoints_closed written 64 in
     accounted-quiet (handles-quiet (futures_closed mid 64))
     (accounted-futures mid 64
-    (accounted-below closed (λ e. e) closed-does written 64 (accounted-below writer_closed writer_place writer_closed-does read 64 (accounted-below reader_closed reader_place reader_closed-does state 64 a))))
+    (accounted-below closed Own closed-does written 64 (accounted-below writer_closed OfWriter writer_closed-does read 64 (accounted-below reader_closed OfReader reader_closed-does state 64 a))))
 
 -- where no name is open no ticket is held
-pub accounted-none : (state : State) → Accounted state → ((e : ℕ) → named state.endpoints e ≡ None) → ((n : ℕ) → named state.futures n ≡ None) → (t : ℕ) → owner_at state.host.tickets t ≡ None
+pub accounted-none : (state : State) → Accounted state → ((e : EndpointName) → endpoint_under state e ≡ None) → ((n : ℕ) → named state.futures n ≡ None) → (t : ℕ) → owner_at state.host.tickets t ≡ None
 accounted-none state a none gone t = by (owner_at state.host.tickets t) refl
   where
     nobody : (key : ℕ) → Has state t key → ⊥

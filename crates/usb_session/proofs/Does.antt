@@ -233,6 +233,10 @@ closing-does {few} state e lines (Some x) its a without here none same other cha
 abbrev pub Closing : (State → ℕ → State) → (ℕ → EndpointName) → Type 0
 Closing act name = (state : State) (n : ℕ) (lines : EndpointName → List (List ℕ)) → Acts (Unit {0}) (silent (act state n)) state (closed_under state lines (name n)) []
 
+-- the state behind a change has the host that the change names
+pub at-host : {old new : State} {host : HostState} {e : EndpointName} {o : Option Endpoint} (P : State → Type 0) → Changes old new host e o → P (with_host new host) → P new
+at-host {new = new} P changes now = subst P (ap (with_host new) (sym changes.host_is)) now
+
 -- a state where what is open under the names of one kind changed, and the host
 pub own-changes : (state : State) (host : HostState) (after : List (Option Endpoint)) (e : ℕ) (o : Option Endpoint) → ChangedAt state.endpoints after e o → Changes state (record state { host = host; endpoints = after }) host (Own e) o
 own-changes state host after e o c =

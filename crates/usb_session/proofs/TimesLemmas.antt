@@ -1,15 +1,20 @@
 -- How often a ticket stands in the lists of what is open.
-use Rattle.std.proofs.Common.{ℕ, zero, suc, arith, ◌≡◌, ◌≢◌, ◌<◌, ◌≤◌, ◌+◌, List, [], ◌∷◌, ◌++◌, length, get_or, slice_get, replicate, Option, Some, None, inl, inr, refl, ◌∙◌, ap}
+use Rattle.std.proofs.Common.{ℕ, zero, suc, arith, ◌≡◌, ◌≢◌, ◌<◌, ◌≤◌, ◌+◌, ◌⊎◌, true, List, [], ◌∷◌, ◌++◌, length, get_or, Option, Some, None, inl, inr, refl, sym, ◌∙◌, ap, subst}
 use Rattle.std.specs.Prelude.{◌==◌, if◌then◌else◌, count_by, All}
 use Rattle.std.proofs.lemmas.Bool.{cases_eq, eq-eqb, ne_eqb}
-use Rattle.std.proofs.lemmas.Option.{none-some, same_Some}
+use Rattle.std.proofs.lemmas.Option.{slice_get_within}
 use Rattle.std.proofs.lemmas.List.Sums.{sum_by-cons}
 use Rattle.std.proofs.lemmas.List.Elements.{All-nil, All-cons}
+use Rattle.usb_device_host.specs.HostState.{HostState}
 use Rattle.usb_device.specs.Futures.{FutureState}
-use Rattle.usb_session_calls.specs.Names.{named, change_at}
-use Rattle.usb_session_calls.specs.State.{Endpoint}
+use Rattle.usb_session_calls.specs.Names.{named, is_free, freed, set_name}
+use Rattle.usb_session_calls.specs.State.{State, Endpoint, Reader, Writer}
+use Rattle.usb_session_calls.specs.EndpointNames.{EndpointName, Own, OfReader, OfWriter, endpoint_under}
 use Rattle.usb_session.specs.ControlAnswers.{listed}
-use Rattle.usb_session_calls.proofs.NameLemmas.{place_of}
+use Rattle.usb_session_calls.proofs.NameLemmas.{place_of, named_of, free_place, free-within}
+use Rattle.usb_session_calls.proofs.EndpointNameLemmas.{Changed, ChangedAt, cases_name, set-changes, freed-changes}
+use Rattle.usb_session.proofs.PrintLemmas.{mapped-some}
+use Rattle.usb_session.proofs.Does.{NameCounts, name_counts, Changes}
 
 abbrev pub one : ℕ → ℕ → ℕ
 one t u = if u == t then 1 else 0
@@ -44,6 +49,9 @@ stands [] k d below = absurd (omega arith)
 stands (x ∷ xs) zero d below = let here = one-same x in omega arith
 stands (x ∷ xs) (suc k) d below = let IH = stands xs k d (omega arith) in omega arith
 
+lower : (n t : ℕ) → n ≢ t → t < suc n → t < n
+lower n t apart small = omega arith
+
 -- how often a number is below n, which is once or never
 abbrev pub among : ℕ → ℕ → ℕ
 among t zero = 0
@@ -70,31 +78,62 @@ among-within t (suc n) within =
       | inl same ↦ let below = among-beyond t n (omega arith) in let here : one t n ≡ 1 = ap (one t) same ∙ one-same t in omega arith
       | inr apart ↦ let here = one-apart t n apart in let IH = among-within t n (lower n t apart within) in omega arith
     ]
-  where
-    lower : (n t : ℕ) → n ≢ t → t < suc n → t < n
-    lower n t apart small = omega arith
 
--- among the tickets of what is open
+-- the sum over the numbers below n
+abbrev pub sum_below : (ℕ → ℕ) → ℕ → ℕ
+sum_below f zero = 0
+sum_below f (suc n) = f n + sum_below f n
+
+sum-same : (f g : ℕ → ℕ) (n : ℕ) → ((k : ℕ) → k < n → g k ≡ f k) → sum_below g n ≡ sum_below f n
+sum-same f g zero same = refl
+sum-same f g (suc n) same = let here = same n (omega arith) in let IH = sum-same f g n (λ k below. same k (omega arith)) in omega arith
+
+sum-none : (f : ℕ → ℕ) (n : ℕ) → ((k : ℕ) → f k ≡ 0) → sum_below f n ≡ 0
+sum-none f zero none = refl
+sum-none f (suc n) none = let here = none n in let IH = sum-none f n none in omega arith
+
+-- where one of them changed
+sum-change : (f g : ℕ → ℕ) (n e : ℕ) → e < n → ((k : ℕ) → k ≢ e → g k ≡ f k) → sum_below g n + f e ≡ sum_below f n + g e
+sum-change f g zero e within others = absurd (omega arith)
+sum-change f g (suc n) e within others =
+    elim (cases_eq n e) [
+      | inl same ↦
+          let below = sum-same f g n (λ k less. others k (λ is. absurd (omega arith))) in
+          let old : f n ≡ f e = ap f same in
+          let new : g n ≡ g e = ap g same in omega arith
+      | inr apart ↦ let here = others n apart in let IH = sum-change f g n e (lower n e apart within) others in omega arith
+    ]
+
+sum-one : (f : ℕ → ℕ) (n e : ℕ) → e < n → f e ≤ sum_below f n
+sum-one f zero e within = absurd (omega arith)
+sum-one f (suc n) e within =
+    elim (cases_eq n e) [
+      | inl same ↦ let here : f n ≡ f e = ap f same in omega arith
+      | inr apart ↦ let IH = sum-one f n e (lower n e apart within) in omega arith
+    ]
+
+-- among the tickets of what may be open
 abbrev pub times_in : {X : Type 0} → (X → List ℕ) → ℕ → Option X → ℕ
 times_in its t None = 0
 times_in its t (Some x) = times t (its x)
 
-abbrev pub times_among : {X : Type 0} → (X → List ℕ) → ℕ → List (Option X) → ℕ
-times_among its t [] = 0
-times_among its t (o ∷ os) = times_in its t o + times_among its t os
-
--- of endpoints, and of futures
 abbrev pub tickets_in : Endpoint → List ℕ
 tickets_in h = h.tickets
-
-abbrev pub times_open : ℕ → List (Option Endpoint) → ℕ
-times_open t os = times_among tickets_in t os
 
 abbrev pub ticket_in : FutureState → List ℕ
 ticket_in f = listed f.ticket
 
+-- of the endpoints that are open, under so many names
+abbrev times_under : ℕ → NameCounts → (EndpointName → Option Endpoint) → ℕ
+times_under t c opened =
+    sum_below (λ e. times_in tickets_in t (opened (Own e))) c.own + sum_below (λ r. times_in tickets_in t (opened (OfReader r))) c.readers + sum_below (λ w. times_in tickets_in t (opened (OfWriter w))) c.writers
+
+abbrev pub times_open : ℕ → State → ℕ
+times_open t state = times_under t (name_counts state) (endpoint_under state)
+
+-- and of the futures that are
 abbrev pub times_awaited : ℕ → List (Option FutureState) → ℕ
-times_awaited t os = times_among ticket_in t os
+times_awaited t fs = sum_below (λ n. times_in ticket_in t (named fs n)) (length fs)
 
 pub listed-once : (o : Option ℕ) (t : ℕ) → o ≡ Some t → times t (listed o) ≡ 1
 listed-once o t is = let here = one-same t in rw is (omega arith)
@@ -102,43 +141,143 @@ listed-once o t is = let here = one-same t in rw is (omega arith)
 pub listed-apart : (o : Option ℕ) (t : ℕ) → times t (listed o) ≡ 0 → o ≢ Some t
 listed-apart o t none is = let here = listed-once o t is in absurd (omega arith)
 
-pub open-change : {X : Type 0} (its : X → List ℕ) (t : ℕ) (g : Option X → Option X) (os : List (Option X)) (e : ℕ) (o : Option X) → slice_get os e ≡ Some o → times_among its t (change_at g os e) + times_in its t o ≡ times_among its t os + times_in its t (g o)
-open-change its t g [] e o at = absurd (none-some o at)
-open-change its t g (x ∷ xs) zero o at =
-    let same = same_Some x o at in
-    let before : times_in its t x ≡ times_in its t o = ap (times_in its t) same in
-    let after : times_in its t (g x) ≡ times_in its t (g o) = ap (λ p. times_in its t (g p)) same in omega arith
-open-change its t g (x ∷ xs) (suc e) o at = let IH = open-change its t g xs e o at in omega arith
+-- a name is one of so many
+abbrev IsAmong : NameCounts → EndpointName → Type 0
+IsAmong c (Own e) = e < c.own
+IsAmong c (OfReader r) = r < c.readers
+IsAmong c (OfWriter w) = w < c.writers
+
+named-within : {X : Type 0} (xs : List (Option X)) (n : ℕ) (x : X) → named xs n ≡ Some x → n < length xs
+named-within xs n x is = slice_get_within xs n (Some x) (place_of xs n x is)
+
+among-names : (state : State) (e : EndpointName) (h : Endpoint) → endpoint_under state e ≡ Some h → IsAmong (name_counts state) e
+among-names state (Own e) h is = named-within state.endpoints e h is
+among-names state (OfReader r) h is =
+    let x = mapped-some (λ (x : Reader). x.endpoint) (named state.readers r) h is in named-within state.readers r x.0 x.1
+among-names state (OfWriter w) h is =
+    let x = mapped-some (λ (x : Writer). x.endpoint) (named state.writers w) h is in named-within state.writers w x.0 x.1
+
+-- what is open under one name was changed
+module _ (t : ℕ) (c : NameCounts) (old new : EndpointName → Option Endpoint) where
+  kind-same : (e : EndpointName) (o : Option Endpoint) (name : ℕ → EndpointName) (n : ℕ) → Changed old new e o → ((k : ℕ) → name k ≢ e)
+      → sum_below (λ k. times_in tickets_in t (new (name k))) n ≡ sum_below (λ k. times_in tickets_in t (old (name k))) n
+  kind-same e o name n changed apart =
+      sum-same (λ k. times_in tickets_in t (old (name k))) (λ k. times_in tickets_in t (new (name k))) n (λ k below. ap (times_in tickets_in t) (changed.others (name k) (apart k)))
+
+  kind-change : (k : ℕ) (o : Option Endpoint) (name : ℕ → EndpointName) (n : ℕ) → Changed old new (name k) o → ((j : ℕ) → j ≢ k → name j ≢ name k) → k < n
+      → sum_below (λ j. times_in tickets_in t (new (name j))) n + times_in tickets_in t (old (name k)) ≡ sum_below (λ j. times_in tickets_in t (old (name j))) n + times_in tickets_in t o
+  kind-change k o name n changed differ within =
+      sum-change (λ j. times_in tickets_in t (old (name j))) (λ j. times_in tickets_in t (new (name j))) n k within (λ j apart. ap (times_in tickets_in t) (changed.others (name j) (differ j apart)))
+      ∙ ap (λ p. sum_below (λ j. times_in tickets_in t (old (name j))) n + times_in tickets_in t p) changed.here
+
+  changed-under : (e : EndpointName) (o : Option Endpoint) → IsAmong c e → Changed old new e o → times_under t c new + times_in tickets_in t (old e) ≡ times_under t c old + times_in tickets_in t o
+  changed-under (Own e) o within changed =
+      let own = kind-change e o Own c.own changed (λ j apart same. apart (cc)) within in
+      let readers = kind-same (Own e) o OfReader c.readers changed (λ k same. absurd (cc)) in
+      let writers = kind-same (Own e) o OfWriter c.writers changed (λ k same. absurd (cc)) in omega arith
+  changed-under (OfReader r) o within changed =
+      let own = kind-same (OfReader r) o Own c.own changed (λ k same. absurd (cc)) in
+      let readers = kind-change r o OfReader c.readers changed (λ j apart same. apart (cc)) within in
+      let writers = kind-same (OfReader r) o OfWriter c.writers changed (λ k same. absurd (cc)) in omega arith
+  changed-under (OfWriter w) o within changed =
+      let own = kind-same (OfWriter w) o Own c.own changed (λ k same. absurd (cc)) in
+      let readers = kind-same (OfWriter w) o OfReader c.readers changed (λ k same. absurd (cc)) in
+      let writers = kind-change w o OfWriter c.writers changed (λ j apart same. apart (cc)) within in omega arith
+
+-- by what a state had open there, or has there now
+module _ {old new : State} {host : HostState} {e : EndpointName} {o : Option Endpoint} (t : ℕ) (changes : Changes old new host e o) where
+  open-by : IsAmong (name_counts old) e → times_open t new + times_in tickets_in t (endpoint_under old e) ≡ times_open t old + times_in tickets_in t o
+  open-by within =
+      ap (λ c. times_under t c (endpoint_under new) + times_in tickets_in t (endpoint_under old e)) changes.names
+      ∙ changed-under t (name_counts old) (endpoint_under old) (endpoint_under new) e o within changes.endpoints
+
+  pub open-change : (h : Endpoint) → endpoint_under old e ≡ Some h → times_open t new + times t h.tickets ≡ times_open t old + times_in tickets_in t o
+  open-change h was = ap (λ p. times_open t new + times_in tickets_in t p) (sym was) ∙ open-by (among-names old e h was)
+
+  pub open-put : (h : Endpoint) → endpoint_under old e ≡ None → o ≡ Some h → times_open t new ≡ times_open t old + times t h.tickets
+  open-put h none some =
+      let within = subst (λ c. IsAmong c e) changes.names (among-names new e h (changes.endpoints.here ∙ some)) in
+      let was : times_in tickets_in t (endpoint_under old e) ≡ 0 = ap (times_in tickets_in t) none in
+      let now : times_in tickets_in t o ≡ times t h.tickets = ap (times_in tickets_in t) some in
+      let all = open-by within in omega arith
+
+pub open-same : (t : ℕ) (old new : State) → name_counts new ≡ name_counts old → ((e : EndpointName) → endpoint_under new e ≡ endpoint_under old e) → times_open t new ≡ times_open t old
+open-same t old new names same =
+    ap (λ c. times_under t c (endpoint_under new)) names
+    ∙ (let c = name_counts old in
+    let kind : (name : ℕ → EndpointName) (n : ℕ) → sum_below (λ k. times_in tickets_in t (endpoint_under new (name k))) n ≡ sum_below (λ k. times_in tickets_in t (endpoint_under old (name k))) n = λ name n.
+    sum-same (λ k. times_in tickets_in t (endpoint_under old (name k))) (λ k. times_in tickets_in t (endpoint_under new (name k))) n (λ k below. ap (times_in tickets_in t) (same (name k))) in
+    let own = kind Own c.own in
+    let readers = kind OfReader c.readers in
+    let writers = kind OfWriter c.writers in omega arith)
 
 -- what is open under one name, and under two
-at-most : {X : Type 0} (its : X → List ℕ) (t : ℕ) (os : List (Option X)) (e : ℕ) (o : Option X) → slice_get os e ≡ Some o → times_in its t o ≤ times_among its t os
-at-most its t [] e o at = absurd (none-some o at)
-at-most its t (x ∷ xs) zero o at = let same : times_in its t x ≡ times_in its t o = ap (times_in its t) (same_Some x o at) in omega arith
-at-most its t (x ∷ xs) (suc e) o at = let IH = at-most its t xs e o at in omega arith
+one-under : (t : ℕ) (c : NameCounts) (opened : EndpointName → Option Endpoint) (e : EndpointName) → IsAmong c e → times_in tickets_in t (opened e) ≤ times_under t c opened
+one-under t c opened (Own e) within = let most = sum-one (λ k. times_in tickets_in t (opened (Own k))) c.own e within in omega arith
+one-under t c opened (OfReader r) within = let most = sum-one (λ k. times_in tickets_in t (opened (OfReader k))) c.readers r within in omega arith
+one-under t c opened (OfWriter w) within = let most = sum-one (λ k. times_in tickets_in t (opened (OfWriter k))) c.writers w within in omega arith
 
-pub open-one : {X : Type 0} (its : X → List ℕ) (t : ℕ) (os : List (Option X)) (e : ℕ) (h : X) → named os e ≡ Some h → times t (its h) ≤ times_among its t os
-open-one its t os e h is = at-most its t os e (Some h) (place_of os e h is)
+pub open-one : (t : ℕ) (state : State) (e : EndpointName) (h : Endpoint) → endpoint_under state e ≡ Some h → times t h.tickets ≤ times_open t state
+open-one t state e h is =
+    subst (λ p. times_in tickets_in t p ≤ times_open t state) is (one-under t (name_counts state) (endpoint_under state) e (among-names state e h is))
 
-both : {X : Type 0} (its : X → List ℕ) (t : ℕ) (os : List (Option X)) (d e : ℕ) (o p : Option X) → d ≢ e → slice_get os d ≡ Some o → slice_get os e ≡ Some p → times_in its t o + times_in its t p ≤ times_among its t os
-both its t [] d e o p apart first second = absurd (none-some o first)
-both its t (x ∷ xs) zero zero o p apart first second = absurd (apart refl)
-both its t (x ∷ xs) zero (suc e) o p apart first second =
-    let same : times_in its t x ≡ times_in its t o = ap (times_in its t) (same_Some x o first) in let other = at-most its t xs e p second in omega arith
-both its t (x ∷ xs) (suc d) zero o p apart first second =
-    let same : times_in its t x ≡ times_in its t p = ap (times_in its t) (same_Some x p second) in let other = at-most its t xs d o first in omega arith
-both its t (x ∷ xs) (suc d) (suc e) o p apart first second = let IH = both its t xs d e o p (λ same. apart (ap suc same)) first second in omega arith
+-- all but one name
+abbrev except_by : {d e : EndpointName} → (d ≡ e) ⊎ (d ≢ e) → Option Endpoint → Option Endpoint
+except_by (inl same) o = None
+except_by (inr apart) o = o
 
-pub open-two : {X : Type 0} (its : X → List ℕ) (t : ℕ) (os : List (Option X)) (d e : ℕ) (g h : X) → d ≢ e → named os d ≡ Some g → named os e ≡ Some h → times t (its g) + times t (its h) ≤ times_among its t os
-open-two its t os d e g h apart first second = both its t os d e (Some g) (Some h) apart (place_of os d g first) (place_of os e h second)
+abbrev except : (EndpointName → Option Endpoint) → EndpointName → EndpointName → Option Endpoint
+except opened e d = except_by (cases_name d e) (opened d)
+
+except-here : {e : EndpointName} (c : (e ≡ e) ⊎ (e ≢ e)) (o : Option Endpoint) → except_by c o ≡ None
+except-here (inl same) o = refl
+except-here (inr apart) o = absurd (apart refl)
+
+except-other : {d e : EndpointName} (c : (d ≡ e) ⊎ (d ≢ e)) (o : Option Endpoint) → d ≢ e → except_by c o ≡ o
+except-other (inl same) o apart = absurd (apart same)
+except-other (inr away) o apart = refl
+
+pub open-two : (t : ℕ) (state : State) (d e : EndpointName) (g h : Endpoint) → d ≢ e → endpoint_under state d ≡ Some g → endpoint_under state e ≡ Some h → times t g.tickets + times t h.tickets ≤ times_open t state
+open-two t state d e g h apart first second =
+    let c = name_counts state in
+    let old = endpoint_under state in
+    let rest = except old e in
+    let gone : Changed old rest e None = record { here = except-here (cases_name e e) (old e); others = λ n away. except-other (cases_name n e) (old n) away } in
+    let change = changed-under t c old rest e None (among-names state e h second) gone in
+    let was : times_in tickets_in t (old e) ≡ times t h.tickets = ap (times_in tickets_in t) second in
+    let most = one-under t c rest d (among-names state d g first) in
+    let there : times_in tickets_in t (rest d) ≡ times t g.tickets = ap (times_in tickets_in t) (except-other (cases_name d e) (old d) apart ∙ first) in omega arith
 
 -- names under which nothing is open
-pub times-none : {X : Type 0} (its : X → List ℕ) (t : ℕ) (os : List (Option X)) → ((n : ℕ) → n < length os → named os n ≡ None) → times_among its t os ≡ 0
-unfolding named
-times-none its t [] none = refl
-times-none its t (o ∷ os) none =
-    let here : times_in its t o ≡ 0 = ap (times_in its t) (none 0 (omega arith)) in
-    let IH = times-none its t os (λ n below. none (suc n) (omega arith)) in omega arith
+pub open-none : (t : ℕ) (state : State) → ((e : EndpointName) → endpoint_under state e ≡ None) → times_open t state ≡ 0
+open-none t state none =
+    let c = name_counts state in
+    let kind : (name : ℕ → EndpointName) (n : ℕ) → sum_below (λ k. times_in tickets_in t (endpoint_under state (name k))) n ≡ 0 = λ name n.
+    sum-none (λ k. times_in tickets_in t (endpoint_under state (name k))) n (λ k. ap (times_in tickets_in t) (none (name k))) in
+    let own = kind Own c.own in
+    let readers = kind OfReader c.readers in
+    let writers = kind OfWriter c.writers in omega arith
 
-pub times-replicate : {X : Type 0} (its : X → List ℕ) (t n : ℕ) → times_among its t (replicate n None) ≡ 0
-times-replicate its t zero = refl
-times-replicate its t (suc n) = let IH = times-replicate its t n in omega arith
+-- so with futures
+awaited-by : (t : ℕ) (fs after : List (Option FutureState)) (n : ℕ) (o : Option FutureState) → ChangedAt fs after n o → n < length fs → times_awaited t after + times_in ticket_in t (named fs n) ≡ times_awaited t fs + times_in ticket_in t o
+awaited-by t fs after n o changed within =
+    ap (λ m. sum_below (λ k. times_in ticket_in t (named after k)) m + times_in ticket_in t (named fs n)) changed.length
+    ∙ sum-change (λ k. times_in ticket_in t (named fs k)) (λ k. times_in ticket_in t (named after k)) (length fs) n within (λ k apart. ap (times_in ticket_in t) (changed.others k apart))
+    ∙ ap (λ p. times_awaited t fs + times_in ticket_in t p) changed.here
+
+pub awaited-freed : (t : ℕ) (fs : List (Option FutureState)) (n : ℕ) (f : FutureState) → named fs n ≡ Some f → times_awaited t (freed fs n) + times t (listed f.ticket) ≡ times_awaited t fs
+awaited-freed t fs n f is =
+    let was : times_in ticket_in t (named fs n) ≡ times t (listed f.ticket) = ap (times_in ticket_in t) is in
+    let change = awaited-by t fs (freed fs n) n None (freed-changes fs n) (named-within fs n f is) in omega arith
+
+pub awaited-set : (t : ℕ) (fs : List (Option FutureState)) (n : ℕ) (f : FutureState) → is_free fs n ≡ true → times_awaited t (set_name fs n f) ≡ times_awaited t fs + times t (listed f.ticket)
+awaited-set t fs n f free =
+    let was : times_in ticket_in t (named fs n) ≡ 0 = ap (times_in ticket_in t) (named_of fs n None (free_place fs n free)) in
+    let change = awaited-by t fs (set_name fs n f) n (Some f) (set-changes fs n f free) (free-within fs n free) in omega arith
+
+pub awaited-one : (t : ℕ) (fs : List (Option FutureState)) (n : ℕ) (f : FutureState) → named fs n ≡ Some f → times t (listed f.ticket) ≤ times_awaited t fs
+awaited-one t fs n f is =
+    subst (λ p. times_in ticket_in t p ≤ times_awaited t fs) is (sum-one (λ k. times_in ticket_in t (named fs k)) (length fs) n (named-within fs n f is))
+
+pub awaited-none : (t : ℕ) (fs : List (Option FutureState)) → ((n : ℕ) → named fs n ≡ None) → times_awaited t fs ≡ 0
+awaited-none t fs none = sum-none (λ n. times_in ticket_in t (named fs n)) (length fs) (λ n. ap (times_in ticket_in t) (none n))
