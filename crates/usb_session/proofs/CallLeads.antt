@@ -1,7 +1,7 @@
 -- A call of a reader or a writer submits and takes tickets of the endpoint that it holds, and leads to what it left of the host and the endpoint.
-use Rattle.std.proofs.Common.{◌≡◌, ℕ, ◌≤◌, ◌+◌, ◌-◌, zero, suc, arith, false, List, [], ◌∷◌, ◌++◌, length, drop, length-append, length-drop, Option, Some, None, inl, inr, refl, ap, sym, ◌∙◌, slice_get, append_assoc, append-nil}
+use Rattle.std.proofs.Common.{◌≡◌, ℕ, ◌≤◌, ◌+◌, ◌-◌, suc, arith, true, false, List, [], ◌∷◌, ◌++◌, length, take, drop, length-append, Option, Some, None, inl, inr, refl, ap, sym, ◌∙◌, subst, append_assoc, append-nil}
 use Rattle.std.specs.Option.{option_map}
-use Rattle.std.proofs.lemmas.List.{drop-append-le}
+use Rattle.std.proofs.Math.Seq.{take-append_seam}
 use Rattle.std.proofs.lemmas.Option.{none-some}
 use Rattle.usb_xfer.specs.BufferState.{BufferState}
 use Rattle.usb_kernel.specs.Tickets.{tickets}
@@ -17,36 +17,25 @@ use Rattle.usb_session_streams.specs.Numbers.{numbers_from}
 use Rattle.usb_session_calls.specs.Names.{named, change_named}
 use Rattle.usb_session_calls.specs.EndpointNames.{EndpointName, Own, OfReader, OfWriter, endpoint_under}
 use Rattle.usb_session_calls.proofs.EndpointNameLemmas.{Changed, change-changes, cases_name}
-use Rattle.usb_session_calls.specs.State.{State, Endpoint, Reader, Writer, endpoint_state, pending, tickets_of}
-use Rattle.usb_session_calls.specs.Readers.{called_endpoint}
+use Rattle.usb_session_calls.specs.State.{State, Endpoint, Reader, Writer, endpoint_of_reader, endpoint_of_writer, tickets_of}
+use Rattle.usb_session_calls.specs.Readers.{taken_by_call}
 use Rattle.usb_session_calls.specs.Answer.{Answer}
 use Rattle.usb_session_calls.specs.Submits.{with_submission}
-use Rattle.usb_session_calls.specs.Polls.{one_taken}
-use Rattle.usb_session.specs.Accounts.{TookFew}
-use Rattle.usb_session.proofs.Does.{Acts, Changes, Does, IsStream, says_done, goes, submits, fits, reads, ends, quiet-aside, own-changes, reader-changes, writer-changes}
-
--- a ticket that stands next
-front-next : (xs : List ℕ) (n t : ℕ) (ts : List ℕ) → drop n xs ≡ t ∷ ts → (slice_get xs n ≡ Some t) × (drop (n + 1) xs ≡ ts) × (n + 1 ≤ length xs)
-front-next [] zero t ts is = absurd (cc)
-front-next [] (suc n) t ts is = absurd (cc)
-front-next (x ∷ xs) zero t ts is = (cc, cc, omega arith)
-front-next (x ∷ xs) (suc n) t ts is =
-    let more = front-next xs n t ts is in
-    let s : suc n + 1 ≡ suc (n + 1) = omega arith in
-    (more.0, rw s more.1, omega (arith, more.2))
+use Rattle.usb_session_calls.specs.Polls.{front_taken}
+use Rattle.usb_session.proofs.Does.{Acts, Changes, Does, IsStream, says_done, goes, submits, reads, ends, quiet-aside, own-changes, reader-changes, writer-changes}
 
 -- how many tickets a host has had
 abbrev count_in : HostState → ℕ
 count_in host = length (tickets host.kernel.past)
 
--- a call goes on: the endpoint at its place (h before the call) has these tickets by now
-abbrev by_now : Endpoint → List ℕ → ℕ → Endpoint
-by_now h tickets taken = record h { tickets = tickets; taken = taken }
+-- a call goes on: the endpoint (h before the call) is this one to it by now (x), and these tickets were taken
+abbrev by_now : Endpoint → List ℕ → EndpointState → Endpoint
+by_now h taken x = record h { state = x; taken = h.taken ++ taken }
 
 abbrev put_endpoint : State → EndpointName → Endpoint → State
-put_endpoint state (Own e) g = record state { endpoints = change_named (λ (x : Endpoint). g) state.endpoints e }
-put_endpoint state (OfReader r) g = record state { readers = change_named (λ (x : Reader). record x { endpoint = g }) state.readers r }
-put_endpoint state (OfWriter w) g = record state { writers = change_named (λ (x : Writer). record x { endpoint = g }) state.writers w }
+put_endpoint state (Own e) g = state
+put_endpoint state (OfReader r) g = record state { readers = change_named (λ (x : Reader). record x { state = record x.state { endpoint = g.state }; before = g.taken; taken = [] }) state.readers r }
+put_endpoint state (OfWriter w) g = record state { writers = change_named (λ (x : Writer). record x { state = record x.state { endpoint = g.state }; taken = g.taken }) state.writers w }
 
 abbrev at_call : State → EndpointName → Endpoint → HostState → State
 at_call state e g host = record (put_endpoint state e g) { host = host }
@@ -56,14 +45,18 @@ held-by : {X Y : Type 0} (f : X → Y) (o : Option X) (y : Y) → option_map f o
 held-by f None y is = absurd (none-some y is)
 held-by f (Some x) y is = (x, refl)
 
-at-changes : (state : State) (e : EndpointName) (h g : Endpoint) (host : HostState) → endpoint_under state e ≡ Some h → Changes state (at_call state e g host) host e (Some g)
-at-changes state (Own e) h g host here = own-changes state host (change_named (λ (x : Endpoint). g) state.endpoints e) e (Some g) (change-changes (λ (x : Endpoint). g) state.endpoints e h here)
-at-changes state (OfReader r) h g host here =
-    let y = held-by (λ (x : Reader). x.endpoint) (named state.readers r) h here in
-    reader-changes state host (change_named (λ (x : Reader). record x { endpoint = g }) state.readers r) r (Some (record y.0 { endpoint = g })) (change-changes (λ (x : Reader). record x { endpoint = g }) state.readers r y.0 y.1)
-at-changes state (OfWriter w) h g host here =
-    let y = held-by (λ (x : Writer). x.endpoint) (named state.writers w) h here in
-    writer-changes state host (change_named (λ (x : Writer). record x { endpoint = g }) state.writers w) w (Some (record y.0 { endpoint = g })) (change-changes (λ (x : Writer). record x { endpoint = g }) state.writers w y.0 y.1)
+at-changes : (state : State) (e : EndpointName) (h g : Endpoint) (host : HostState) → IsStream e → g.was_streamed ≡ true → endpoint_under state e ≡ Some h → Changes state (at_call state e g host) host e (Some g)
+at-changes state (Own e) h g host stream was here = absurd stream
+at-changes state (OfReader r) h g host stream was here =
+    let y = held-by endpoint_of_reader (named state.readers r) h here in
+    let f : Reader → Reader = λ x. record x { state = record x.state { endpoint = g.state }; before = g.taken; taken = [] } in
+    let c = reader-changes state host (change_named f state.readers r) r (Some (f y.0)) (change-changes f state.readers r y.0 y.1) in
+    subst (λ o. Changes state (at_call state (OfReader r) g host) host (OfReader r) (Some o)) (ap (λ (l : List ℕ). record { state = g.state; taken = l; was_streamed = true }) (append-nil g.taken) ∙ ap (λ b. record { state = g.state; taken = g.taken; was_streamed = b }) (sym was)) c
+at-changes state (OfWriter w) h g host stream was here =
+    let y = held-by endpoint_of_writer (named state.writers w) h here in
+    let f : Writer → Writer = λ x. record x { state = record x.state { endpoint = g.state }; taken = g.taken } in
+    let c = writer-changes state host (change_named f state.writers w) w (Some (f y.0)) (change-changes f state.writers w y.0 y.1) in
+    subst (λ o. Changes state (at_call state (OfWriter w) g host) host (OfWriter w) (Some o)) (ap (λ b. record { state = g.state; taken = g.taken; was_streamed = b }) (sym was)) c
 
 -- two changes under one name
 pub then-changes : {old mid new : State} {first second : HostState} {e : EndpointName} {o p : Option Endpoint} → Changes old mid first e o → Changes old new second e p → Changes mid new second e p
@@ -83,127 +76,108 @@ same-changed {mid = mid} {new = new} {e = e} first second same d =
     ]
 
 -- it has come to this host, and the endpoint is this one to it (x)
-pub record Leads (few : Type 0) (a : Answer) (state : State) (e : EndpointName) (h : Endpoint) (host : HostState) (x : EndpointState) : Type 0 where
-  tickets : List ℕ
-  taken : ℕ
-  are : tickets ≡ h.tickets ++ numbers_from (tickets_of state) (count_in host - tickets_of state)
+pub record Leads (a : Answer) (state : State) (e : EndpointName) (h : Endpoint) (host : HostState) (x : EndpointState) : Type 0 where
+  taken : List ℕ
+  are : taken ++ x.pending ≡ h.state.pending ++ numbers_from (tickets_of state) (count_in host - tickets_of state)
   more : tickets_of state ≤ count_in host
-  within : taken ≤ length tickets
-  left : drop taken tickets ≡ x.pending
-  kept_is : x ≡ record (endpoint_state h) { pending = x.pending }
-  leads : Acts few a (at_call state e (by_now h tickets taken) host) [] [] → Acts few a state [] []
+  leads : Acts a (at_call state e (by_now h taken x) host) [] [] → Acts a state [] []
 
-module _ (few : Type 0) (a : Answer) (state : State) (e : EndpointName) (h : Endpoint) (stream : IsStream e) (here : endpoint_under state e ≡ Some h) (other : says_done a.line ≡ false) where
+module _ (a : Answer) (state : State) (e : EndpointName) (h : Endpoint) (stream : IsStream e) (was : h.was_streamed ≡ true) (here : endpoint_under state e ≡ Some h) (other : says_done a.line ≡ false) where
   -- from one of its states to another
-  changes-at : (g next : Endpoint) (host after : HostState) → Changes (at_call state e g host) (at_call state e next after) after e (Some next)
-  changes-at g next host after = then-changes (at-changes state e h g host here) (at-changes state e h next after here)
+  changes-at : (taken next : List ℕ) (x y : EndpointState) (host after : HostState) → Changes (at_call state e (by_now h taken x) host) (at_call state e (by_now h next y) after) after e (Some (by_now h next y))
+  changes-at taken next x y host after = then-changes (at-changes state e h (by_now h taken x) host stream was here) (at-changes state e h (by_now h next y) after stream was here)
 
-  here-now : (g : Endpoint) → endpoint_under (put_endpoint state e g) e ≡ Some g
-  here-now g = (at-changes state e h g state.host here).endpoints.here
+  here-now : (taken : List ℕ) (x : EndpointState) → endpoint_under (put_endpoint state e (by_now h taken x)) e ≡ Some (by_now h taken x)
+  here-now taken x = (at-changes state e h (by_now h taken x) state.host stream was here).endpoints.here
 
-  pub leads-start : (x : EndpointState) → x ≡ endpoint_state h → h.taken ≤ length h.tickets → Leads few a state e h state.host x
-  leads-start x same within =
+  pub leads-start : (x : EndpointState) → x ≡ h.state → Leads a state e h state.host x
+  leads-start x same =
       let m = tickets_of state in
       let none : m - m ≡ 0 = omega arith in
-      let left : x.pending ≡ pending h = ap (λ (z : EndpointState). z.pending) same in
+      let first : by_now h [] x ≡ h = ap (λ (z : EndpointState). by_now h [] z) same ∙ ap (λ (l : List ℕ). record h { taken = l }) (append-nil h.taken) in
+      let c = at-changes state e h (by_now h [] x) state.host stream was here in
       record {
-        tickets = h.tickets;
-        taken = h.taken;
-        are = sym (ap (λ n. h.tickets ++ numbers_from m n) none ∙ append-nil h.tickets);
+        taken = [];
+        are = ap (λ (z : EndpointState). z.pending) same ∙ sym (ap (λ n. h.state.pending ++ numbers_from m n) none ∙ append-nil h.state.pending);
         more = omega arith;
-        within = within;
-        left = sym left;
-        kept_is = same ∙ sym (ap (λ (p : List ℕ). record (endpoint_state h) { pending = p }) left);
-        leads = let c = at-changes state e h h state.host here in λ rest. goes (quiet-aside state (at_call state e h state.host) refl refl (λ d. sym (same-changed c.endpoints (stays here) refl d)) c.names c.futures) rest;
+        leads = λ rest. goes (quiet-aside state (at_call state e (by_now h [] x) state.host) refl refl (λ d. sym (same-changed c.endpoints (stays here) (ap (λ (z : Endpoint). Some z) (sym first)) d)) c.names c.futures) rest;
       }
     where
       stays : endpoint_under state e ≡ Some h → Changed (endpoint_under state) (endpoint_under state) e (Some h)
       stays at = record { here = at; others = λ d apart. refl }
 
   -- a submission
-  pub leads-send : (host : HostState) (x : EndpointState) (b : BufferState) → Leads few a state e h host x → Leads few a state e h (entered host_calls host x b) (record x { pending = x.pending ++ count_in host ∷ [] })
+  pub leads-send : (host : HostState) (x : EndpointState) (b : BufferState) → Leads a state e h host x → Leads a state e h (entered host_calls host x b) (record x { pending = x.pending ++ count_in host ∷ [] })
   leads-send host x b l =
       let m = tickets_of state in
       let n = count_in host in
-      let g = by_now h l.tickets l.taken in
-      let mid = at_call state e g host in
       let after = entered host_calls host x b in
       let one = (entered-count host x b).past in
       let more = l.more in
       let next : count_in after - m ≡ suc (n - m) = omega (arith, one, more) in
       let last : m + (n - m) ≡ n = omega (arith, more) in
-      let kept_g : endpoint_state g ≡ x = ap (λ (p : List ℕ). record (endpoint_state h) { pending = p }) l.left ∙ sym l.kept_is in
-      let all = l.tickets ++ n ∷ [] in
-      let changes = changes-at g (by_now h all l.taken) host after in
+      let y : EndpointState = record x { pending = x.pending ++ n ∷ [] } in
       record {
-        tickets = all;
         taken = l.taken;
         are =
-            ap (λ (ts : List ℕ). ts ++ n ∷ []) l.are
-            ∙ append_assoc h.tickets (numbers_from m (n - m)) (n ∷ [])
-            ∙ ap (λ (j : ℕ). h.tickets ++ (numbers_from m (n - m) ++ j ∷ [])) (sym last)
-            ∙ sym (ap (λ (k : ℕ). h.tickets ++ numbers_from m k) next);
+            sym (append_assoc l.taken x.pending (n ∷ []))
+            ∙ ap (λ (ts : List ℕ). ts ++ n ∷ []) l.are
+            ∙ append_assoc h.state.pending (numbers_from m (n - m)) (n ∷ [])
+            ∙ ap (λ (j : ℕ). h.state.pending ++ (numbers_from m (n - m) ++ j ∷ [])) (sym last)
+            ∙ sym (ap (λ (k : ℕ). h.state.pending ++ numbers_from m k) next);
         more = omega (arith, one, more);
-        within = omega (arith, l.within, length-append l.tickets (n ∷ []));
-        left = drop-append-le l.taken l.tickets (n ∷ []) l.within ∙ ap (λ (p : List ℕ). p ++ n ∷ []) l.left;
-        kept_is = ap (λ (z : EndpointState). record z { pending = x.pending ++ n ∷ [] }) l.kept_is;
-        leads = λ rest. l.leads (submits e b g (here-now g) (λ few_. l.within)
-            (record { host_is = ap (λ (z : EndpointState). entered host_calls host z b) (sym kept_g); endpoints = changes.endpoints; names = changes.names; futures = changes.futures }) rest);
+        leads = λ rest. l.leads (submits e b (by_now h l.taken x) (here-now l.taken x) (changes-at l.taken l.taken x y host after) rest);
       }
 
   -- a wait
-  pub leads-wait : (host : HostState) (x : EndpointState) (front timeout : ℕ) → Leads few a state e h host x → Leads few a state e h (waited host_calls front timeout host) x
+  pub leads-wait : (host : HostState) (x : EndpointState) (front timeout : ℕ) → Leads a state e h host x → Leads a state e h (waited host_calls front timeout host) x
   leads-wait host x front timeout l =
       let m = tickets_of state in
       let count = waited-count host front timeout in
       let same = count.past in
       let more = l.more in
       record {
-        tickets = l.tickets;
         taken = l.taken;
-        are = l.are ∙ sym (ap (λ (k : ℕ). h.tickets ++ numbers_from m (k - m)) same);
+        are = l.are ∙ sym (ap (λ (k : ℕ). h.state.pending ++ numbers_from m (k - m)) same);
         more = omega (arith, same, more);
-        within = l.within;
-        left = l.left;
-        kept_is = l.kept_is;
         leads = λ rest. l.leads (goes (record { keeps = on-waited host front timeout; count = count; endpoints = λ d. refl; names = refl; futures = refl }) rest);
       }
 
   -- the front is taken
-  pub leads-take : (host : HostState) (x : EndpointState) (front : ℕ) (others : List ℕ) → x.pending ≡ front ∷ others → Leads few a state e h host x → Leads few a state e h (host_taken host front) (record x { pending = others })
-  leads-take host x front others was l =
+  pub leads-take : (host : HostState) (x : EndpointState) (front : ℕ) (others : List ℕ) → x.pending ≡ front ∷ others → Leads a state e h host x → Leads a state e h (host_taken host front) (record x { pending = others })
+  leads-take host x front others is l =
       let m = tickets_of state in
-      let g = by_now h l.tickets l.taken in
-      let mid = at_call state e g host in
-      let at = front-next l.tickets l.taken front others (l.left ∙ was) in
       let same = (taken-count host front).past in
       let more = l.more in
+      let y : EndpointState = record x { pending = others } in
+      let next = l.taken ++ front ∷ [] in
+      let now : front_taken front (by_now h l.taken x) ≡ by_now h next y =
+          ap (λ (p : List ℕ). record h { state = record x { pending = drop 1 p }; taken = (h.taken ++ l.taken) ++ front ∷ [] }) is
+          ∙ ap (λ (ts : List ℕ). record h { state = y; taken = ts }) (append_assoc h.taken l.taken (front ∷ [])) in
       record {
-        tickets = l.tickets;
-        taken = l.taken + 1;
-        are = l.are ∙ sym (ap (λ (k : ℕ). h.tickets ++ numbers_from m (k - m)) same);
+        taken = next;
+        are =
+            append_assoc l.taken (front ∷ []) others ∙ ap (λ (p : List ℕ). l.taken ++ p) (sym is) ∙ l.are
+            ∙ sym (ap (λ (k : ℕ). h.state.pending ++ numbers_from m (k - m)) same);
         more = omega (arith, same, more);
-        within = at.2;
-        left = at.1;
-        kept_is = ap (λ (z : EndpointState). record z { pending = others }) l.kept_is;
-        leads = λ rest. l.leads (reads e front g stream (here-now g) at.0 other (changes-at g (by_now h l.tickets (l.taken + 1)) host (host_taken host front)) rest);
+        leads = λ rest. l.leads (reads e front others (by_now h l.taken x) stream (here-now l.taken x) is other
+            (subst (λ g. Changes (at_call state e (by_now h l.taken x) host) (at_call state e (by_now h next y) (host_taken host front)) (host_taken host front) e (Some g)) (sym now)
+            (changes-at l.taken next x y host (host_taken host front))) rest);
       }
 
--- so it comes to the state behind the call
-leads-end : (few : Type 0) (a : Answer) (state : State) (e : EndpointName) (h : Endpoint) (host : HostState) (x : EndpointState) → endpoint_under state e ≡ Some h → says_done a.line ≡ false
-    → Changes state a.state host e (Some (called_endpoint (tickets_of state) (count_in host) x.pending h)) → Leads few a state e h host x → Acts few a state [] []
-leads-end few a state e h host x here other changes l =
-    let m = tickets_of state in
-    let p = x.pending in
-    let f : Endpoint → Endpoint = called_endpoint m (count_in host) p in
-    let g = by_now h l.tickets l.taken in
-    let size : length l.tickets - length p ≡ l.taken = omega (arith, length-drop l.taken l.tickets, ap (λ (ts : List ℕ). length ts) l.left, l.within) in
-    let are : f h ≡ g = ap (λ (ts : List ℕ). by_now h ts (length ts - length p)) (sym l.are) ∙ ap (by_now h l.tickets) size in
-    let c = then-changes (at-changes state e h g host here) changes in
-    l.leads (ends other (quiet-aside (at_call state e g host) a.state (ap (λ (v : HostState). v.kernel.past) changes.host_is) (ap (λ (v : HostState). v.tickets) changes.host_is)
-    (same-changed (at-changes state e h g host here).endpoints changes.endpoints (ap (λ (z : Endpoint). Some z) are)) c.names c.futures))
+take-first : (xs ys : List ℕ) → take (length (xs ++ ys) - length ys) (xs ++ ys) ≡ xs
+take-first xs ys =
+    let n : length (xs ++ ys) - length ys ≡ length xs = omega (arith, length-append xs ys) in
+    ap (λ k. take k (xs ++ ys)) n ∙ take-append_seam xs ys
 
-pub called-acts : (state : State) (a : Answer) (e : EndpointName) (h : Endpoint) (host : HostState) (x : EndpointState) → endpoint_under state e ≡ Some h → says_done a.line ≡ false
-    → Changes state a.state host e (Some (called_endpoint (tickets_of state) (count_in host) x.pending h)) → (h.taken ≤ length h.tickets → Leads (TookFew state) a state e h host x) → Does state a
-called-acts state a e h host x here other changes leads =
-    fits other (λ few. leads-end (TookFew state) a state e h host x here other changes (leads (few e h here)))
+-- so it comes to the state behind the call, where the endpoint is this one to it (x)
+pub called-acts : (state : State) (a : Answer) (e : EndpointName) (h : Endpoint) (host : HostState) (x : EndpointState) → IsStream e → h.was_streamed ≡ true → endpoint_under state e ≡ Some h → says_done a.line ≡ false
+    → Changes state a.state host e (Some (record h { state = x; taken = h.taken ++ taken_by_call (tickets_of state) (count_in host) h.state.pending x.pending })) → Leads a state e h host x → Acts a state [] []
+called-acts state a e h host x stream was here other changes l =
+    let m = tickets_of state in
+    let all = h.state.pending ++ numbers_from m (count_in host - m) in
+    let by_call : taken_by_call m (count_in host) h.state.pending x.pending ≡ l.taken = ap (λ (ts : List ℕ). take (length ts - length x.pending) ts) (sym l.are) ∙ take-first l.taken x.pending in
+    let at = at-changes state e h (by_now h l.taken x) host stream was here in
+    let c = then-changes at changes in
+    l.leads (ends other (quiet-aside (at_call state e (by_now h l.taken x) host) a.state (ap (λ (v : HostState). v.kernel.past) changes.host_is) (ap (λ (v : HostState). v.tickets) changes.host_is)
+    (same-changed at.endpoints changes.endpoints (ap (λ (ts : List ℕ). Some (by_now h ts x)) by_call)) c.names c.futures))

@@ -31,7 +31,6 @@ use Rattle.usb_session_calls.specs.declared.call.FutureCall.{FutureCall}
 use Rattle.usb_session_calls.specs.declared.call.FutureCall.TheVariants.{Poll, Wait}
 use Rattle.usb_session_calls.specs.State.{State, tickets_of, with_host}
 use Rattle.usb_session_calls.specs.Answer.{Answer, answer_with, at_host, condition_answer, ok_answer, silent, if_open}
-use Rattle.usb_session.specs.Accounts.{TookFew}
 use Rattle.usb_session_calls.specs.Calls.{is_of_control}
 use Rattle.usb_session.specs.Served.{control_ticket_by}
 use Rattle.usb_session.specs.ControlAnswers.{listed, future_gone}
@@ -63,21 +62,21 @@ abbrev pub control_moves : State → Call → Answer → List ControlMove
 control_moves state call a = map Handed (control_ticket_by state call a) ++ map Parted (parted_by state call a)
 
 -- what the answer of such a call does: it closes no endpoint, and parts with these tickets
-abbrev DoesParting : (Type 0) → State → Answer → (List ℕ → List ℕ) → Type 0
-DoesParting few state a parted = Acts few a state [] (map Handed (handed_in state a) ++ map Parted (parted (handed_in state a)))
+abbrev DoesParting : State → Answer → (List ℕ → List ℕ) → Type 0
+DoesParting state a parted = Acts a state [] (map Handed (handed_in state a) ++ map Parted (parted (handed_in state a)))
 
 -- it parts with the ticket that it hands in, with none, or with that of a future
 abbrev DoesControl : State → Answer → Type 0
-DoesControl state a = DoesParting (TookFew state) state a (λ ts. ts)
+DoesControl state a = DoesParting state a (λ ts. ts)
 
 abbrev DoesStart : State → Answer → Type 0
-DoesStart state a = DoesParting (TookFew state) state a (λ ts. [])
+DoesStart state a = DoesParting state a (λ ts. [])
 
 abbrev pub gone_if : Bool → Option FutureState → Option FutureState
 gone_if free o = if free then o else None
 
 abbrev DoesFuture : State → ℕ → Option FutureState → Answer → Type 0
-DoesFuture state n o a = DoesParting (TookFew state) state a (λ ts. future_parted (gone_if (is_free a.state.futures n) o))
+DoesFuture state n o a = DoesParting state a (λ ts. future_parted (gone_if (is_free a.state.futures n) o))
 
 handed-none : (state : State) (a : Answer) → KeepsCount state.host a.state.host → handed_in state a ≡ []
 handed-none state a keeps = let no_ = not_more (tickets_of state) (tickets_of a.state) keeps.past in rw no_ refl
@@ -85,25 +84,25 @@ handed-none state a keeps = let no_ = not_more (tickets_of state) (tickets_of a.
 handed-one : (state : State) (a : Answer) → CountsOneMore state.host a.state.host → handed_in state a ≡ tickets_of state ∷ []
 handed-one state a more = let yes_ = one_more (tickets_of state) (tickets_of a.state) (omega (arith, more.past)) in rw yes_ refl
 
-hands : {few : Type 0} (state : State) (a : Answer) (ts : List ℕ) (parted : List ℕ → List ℕ) → handed_in state a ≡ ts → Acts few a state [] (map Handed ts ++ map Parted (parted ts)) → DoesParting few state a parted
-hands {few} state a ts parted is does = subst (λ us. Acts few a state [] (map Handed us ++ map Parted (parted us))) (sym is) does
+hands : (state : State) (a : Answer) (ts : List ℕ) (parted : List ℕ → List ℕ) → handed_in state a ≡ ts → Acts a state [] (map Handed ts ++ map Parted (parted ts)) → DoesParting state a parted
+hands state a ts parted is does = subst (λ us. Acts a state [] (map Handed us ++ map Parted (parted us))) (sym is) does
 
 -- it hands in none, and parts with none
-hands-none : {few : Type 0} (state : State) (a : Answer) (parted : List ℕ → List ℕ) → parted [] ≡ [] → KeepsCount state.host a.state.host → Acts few a state [] [] → DoesParting few state a parted
-hands-none {few} state a parted none keeps does =
-    hands state a [] parted (handed-none state a keeps) (subst (λ us. Acts few a state [] (map Parted us)) (sym none) does)
+hands-none : (state : State) (a : Answer) (parted : List ℕ → List ℕ) → parted [] ≡ [] → KeepsCount state.host a.state.host → Acts a state [] [] → DoesParting state a parted
+hands-none state a parted none keeps does =
+    hands state a [] parted (handed-none state a keeps) (subst (λ us. Acts a state [] (map Parted us)) (sym none) does)
 
-hands-quiet : {few : Type 0} (state : State) (a : Answer) (parted : List ℕ → List ℕ) → parted [] ≡ [] → says_done a.line ≡ false → Quiet state a.state → DoesParting few state a parted
+hands-quiet : (state : State) (a : Answer) (parted : List ℕ → List ℕ) → parted [] ≡ [] → says_done a.line ≡ false → Quiet state a.state → DoesParting state a parted
 hands-quiet state a parted none other quiet = hands-none state a parted none quiet.count (ends other quiet)
 
-barred-hands : {few : Type 0} (state : State) (parted : List ℕ → List ℕ) → parted [] ≡ [] → DoesParting few state (condition_answer state) parted
+barred-hands : (state : State) (parted : List ℕ → List ℕ) → parted [] ≡ [] → DoesParting state (condition_answer state) parted
 barred-hands state parted none = hands-quiet state (condition_answer state) parted none refl (quiet-same state)
 
 -- with the steps of its line
 pub handed-applied : (state : State) (a : Answer) → handed_in state (then_applied a) ≡ handed_in state a
 handed-applied state a = ap (λ n. if nat_lt (tickets_of state) n then tickets_of state ∷ [] else []) (rest-count a.state.host).past
 
-along-hands : {few : Type 0} (state : State) (steps : List KernelStep) (call : State → Answer) (parted : List ℕ → List ℕ) → DoesParting few (with_steps state steps) (call (with_steps state steps)) parted → DoesParting few state (along_steps state steps call) parted
+along-hands : (state : State) (steps : List KernelStep) (call : State → Answer) (parted : List ℕ → List ℕ) → DoesParting (with_steps state steps) (call (with_steps state steps)) parted → DoesParting state (along_steps state steps call) parted
 along-hands state steps call parted does =
     let a = call (with_steps state steps) in
     hands state (then_applied a) (handed_in state a) parted (handed-applied state a) (along-does state steps call does)
@@ -149,11 +148,11 @@ moves-quiet state call a quiet =
     ap (λ ts. map Handed ts ++ map Parted (parted_by state call a)) (ticket-none state call a quiet.count) ∙ ap (map Parted) (parted-quiet state call a quiet)
 
 -- where its name is free behind the line it is gone
-hands-future : {few : Type 0} (state : State) (n : ℕ) (f : FutureState) (a : Answer) → is_free a.state.futures n ≡ true → KeepsCount state.host a.state.host → Acts few a state [] (map Parted (listed f.ticket) ++ []) → DoesParting few state a (λ ts. future_parted (gone_if (is_free a.state.futures n) (Some f)))
-hands-future {few} state n f a free keeps does =
+hands-future : (state : State) (n : ℕ) (f : FutureState) (a : Answer) → is_free a.state.futures n ≡ true → KeepsCount state.host a.state.host → Acts a state [] (map Parted (listed f.ticket) ++ []) → DoesParting state a (λ ts. future_parted (gone_if (is_free a.state.futures n) (Some f)))
+hands-future state n f a free keeps does =
     let gone : future_parted (gone_if (is_free a.state.futures n) (Some f)) ≡ listed f.ticket = rw free refl in
     hands state a [] (λ ts. future_parted (gone_if (is_free a.state.futures n) (Some f))) (handed-none state a keeps)
-    (subst (λ us. Acts few a state [] (map Parted us)) (sym gone) (subst (λ ms. Acts few a state [] ms) (append-nil (map Parted (listed f.ticket))) does))
+    (subst (λ us. Acts a state [] (map Parted us)) (sym gone) (subst (λ ms. Acts a state [] ms) (append-nil (map Parted (listed f.ticket))) does))
 
 -- no line of a control transfer is one of a completion
 failed-other : (error : TransferError) → says_done (failed_line error) ≡ false
@@ -307,12 +306,12 @@ abbrev pub moves_parting : Option FutureState → List ControlMove
 moves_parting None = []
 moves_parting (Some f) = map Parted (listed f.ticket) ++ []
 
-future_closed_at-does : {few : Type 0} (state : State) (n : ℕ) (line : List ℕ) (o : Option FutureState) → named state.futures n ≡ o → says_done line ≡ false → Acts few (answer_with (future_closed_at state n o) line) state [] (moves_parting o)
+future_closed_at-does : (state : State) (n : ℕ) (line : List ℕ) (o : Option FutureState) → named state.futures n ≡ o → says_done line ≡ false → Acts (answer_with (future_closed_at state n o) line) state [] (moves_parting o)
 future_closed_at-does state n line None here other = told-does state line other
 future_closed_at-does state n line (Some f) here other =
     frees n f (future_closed state.host f) here (parts-future_closed state.host f.key f.ticket) (told-does (without_future state n f) line other)
 
-pub future_closed_under-does : {few : Type 0} (state : State) (n : ℕ) → Acts few (silent (future_closed_under state n)) state [] (moves_parting (named state.futures n))
+pub future_closed_under-does : (state : State) (n : ℕ) → Acts (silent (future_closed_under state n)) state [] (moves_parting (named state.futures n))
 unfolding future_closed_under
 future_closed_under-does state n = future_closed_at-does state n [] (named state.futures n) refl refl
 

@@ -27,13 +27,12 @@ use Rattle.usb_session_calls.specs.Names.{named, is_free, freed, change_named}
 use Rattle.usb_session_calls.specs.EndpointNames.{EndpointName, Own, OfReader, OfWriter, endpoint_under}
 use Rattle.usb_session_calls.proofs.NameLemmas.{named-change_same, named-change_other}
 use Rattle.usb_session_calls.proofs.EndpointNameLemmas.{Changed, ChangedAt, own-changed, reader-changed, writer-changed}
-use Rattle.usb_session_calls.specs.State.{State, Endpoint, Reader, Writer, endpoint_state, tickets_of, with_host}
+use Rattle.usb_session_calls.specs.State.{State, Endpoint, Reader, Writer, endpoint_of_reader, endpoint_of_writer, tickets_of, with_host}
 use Rattle.usb_session_calls.specs.Answer.{Answer, answer_with, condition_answer, ok_answer, error_answer, silent, if_open}
 use Rattle.usb_session_calls.specs.Submits.{with_submission}
-use Rattle.usb_session_calls.specs.Polls.{one_taken}
+use Rattle.usb_session_calls.specs.Polls.{front_taken}
 use Rattle.usb_session.specs.Futures.{with_future}
 use Rattle.usb_session_calls.specs.Steps.{with_steps, steps_applied, stepped_all, then_applied, along_steps}
-use Rattle.usb_session.specs.Accounts.{TookFew}
 use Rattle.usb_session.specs.Served.{ClosedEndpoint, closed_as, closed_under}
 use Rattle.usb_session.specs.ControlAnswers.{listed}
 
@@ -87,8 +86,8 @@ IsStream (OfWriter w) = Unit {0}
 
 -- an endpoint with the tickets of another
 pub record SameTickets (h g : Endpoint) : Type 0 where
-  pub key : g.key ≡ h.key
-  pub tickets : g.tickets ≡ h.tickets
+  pub key : g.state.key ≡ h.state.key
+  pub pending : g.state.pending ≡ h.state.pending
   pub taken : g.taken ≡ h.taken
 
 -- a control transfer is handed in, or the host parts with the ticket of one: it was answered, or its future closed
@@ -137,34 +136,32 @@ parted-parted (t ∷ ts) = ap (λ us. t ∷ us) (parted-parted ts)
 -- host goes on, endpoints are opened (under names of their own) and tickets submitted, a reader or a writer takes a ticket (`reads`), a control transfer is handed in (`starts`: its future is opened; `controls`: it is awaited and its ticket
 -- taken at once), and the host parts with the ticket of a future, whose name is free then; and then there is nothing more, or a
 -- ticket is taken and its completion printed, or an endpoint is closed, or goes to another name (`moves`: from then on a reader
--- or a writer was made of it; under the name of one it was before). `few` is what is asked of the state before the line: no more
--- tickets of an endpoint were taken than it has. It may be used for all that is done (`fits`)
-pub data Acts (few : Type 0) (a : Answer) : State → List ClosedEndpoint → List ControlMove → Type 0 where
-  goes : {state next : State} {closed : List ClosedEndpoint} {handed : List ControlMove} → Quiet state next → Acts few a next closed handed → Acts few a state closed handed
-  opens : {state next : State} {closed : List ClosedEndpoint} {handed : List ControlMove} (e : ℕ) (x : Endpoint) → endpoint_under state (Own e) ≡ None → x.tickets ≡ [] → x.taken ≡ 0
-      → Changes state next state.host (Own e) (Some x) → Acts few a next closed handed → Acts few a state closed handed
+-- or a writer was made of it; under the name of one it was before)
+pub data Acts (a : Answer) : State → List ClosedEndpoint → List ControlMove → Type 0 where
+  goes : {state next : State} {closed : List ClosedEndpoint} {handed : List ControlMove} → Quiet state next → Acts a next closed handed → Acts a state closed handed
+  opens : {state next : State} {closed : List ClosedEndpoint} {handed : List ControlMove} (e : ℕ) (x : Endpoint) → endpoint_under state (Own e) ≡ None → x.state.pending ≡ [] → x.taken ≡ []
+      → Changes state next state.host (Own e) (Some x) → Acts a next closed handed → Acts a state closed handed
   submits : {state next : State} {closed : List ClosedEndpoint} {handed : List ControlMove} (e : EndpointName) (b : BufferState) (h : Endpoint) → endpoint_under state e ≡ Some h
-      → (few → h.taken ≤ length h.tickets) → Changes state next (entered host_calls state.host (endpoint_state h) b) e (Some (with_submission (tickets_of state) h)) → Acts few a next closed handed → Acts few a state closed handed
-  fits : {state : State} {closed : List ClosedEndpoint} {handed : List ControlMove} → says_done a.line ≡ false → (few → Acts few a state closed handed) → Acts few a state closed handed
-  reads : {state next : State} {closed : List ClosedEndpoint} {handed : List ControlMove} (e : EndpointName) (t : ℕ) (h : Endpoint) → IsStream e → endpoint_under state e ≡ Some h → slice_get h.tickets h.taken ≡ Some t
-      → says_done a.line ≡ false → Changes state next (host_taken state.host t) e (Some (one_taken h)) → Acts few a next closed handed → Acts few a state closed handed
+      → Changes state next (entered host_calls state.host h.state b) e (Some (with_submission (tickets_of state) h)) → Acts a next closed handed → Acts a state closed handed
+  reads : {state next : State} {closed : List ClosedEndpoint} {handed : List ControlMove} (e : EndpointName) (t : ℕ) (ts : List ℕ) (h : Endpoint) → IsStream e → endpoint_under state e ≡ Some h → h.state.pending ≡ t ∷ ts
+      → says_done a.line ≡ false → Changes state next (host_taken state.host t) e (Some (front_taken t h)) → Acts a next closed handed → Acts a state closed handed
   starts : {state : State} {closed : List ClosedEndpoint} {handed : List ControlMove} (n : ℕ) (request : TransferData) (timeout device : ℕ) → is_free state.futures n ≡ true
-      → Acts few a (with_future state n request timeout device) closed handed → Acts few a state closed (Handed (tickets_of state) ∷ handed)
+      → Acts a (with_future state n request timeout device) closed handed → Acts a state closed (Handed (tickets_of state) ∷ handed)
   controls : {state : State} {closed : List ClosedEndpoint} {handed : List ControlMove} (host : HostState) → CountsOneMore state.host host → (CountsAlike state.host → AddsTaken state.host host)
-      → Acts few a (with_host state host) closed handed → Acts few a state closed (Handed (tickets_of state) ∷ Parted (tickets_of state) ∷ handed)
+      → Acts a (with_host state host) closed handed → Acts a state closed (Handed (tickets_of state) ∷ Parted (tickets_of state) ∷ handed)
   frees : {state : State} {closed : List ClosedEndpoint} {handed : List ControlMove} (n : ℕ) (f : FutureState) (host : HostState) → named state.futures n ≡ Some f → Parts state.host host f.ticket
-      → Acts few a (without_future_of state host n) closed handed → Acts few a state closed (map Parted (listed f.ticket) ++ handed)
-  ends : {state : State} → says_done a.line ≡ false → Quiet state a.state → Acts few a state [] []
-  takes : {state next : State} (e : EndpointName) (t : ℕ) (h : Endpoint) (c : Completion) → endpoint_under state e ≡ Some h → (few → slice_get h.tickets h.taken ≡ Some t)
-      → transfer_completion state.host.kernel.past t ≡ Some c → a.line ≡ done_line c → Changes state next (host_taken state.host t) e (Some (one_taken h)) → Quiet next a.state → Acts few a state [] []
+      → Acts a (without_future_of state host n) closed handed → Acts a state closed (map Parted (listed f.ticket) ++ handed)
+  ends : {state : State} → says_done a.line ≡ false → Quiet state a.state → Acts a state [] []
+  takes : {state next : State} (e : EndpointName) (t : ℕ) (ts : List ℕ) (h : Endpoint) (c : Completion) → endpoint_under state e ≡ Some h → h.state.pending ≡ t ∷ ts
+      → transfer_completion state.host.kernel.past t ≡ Some c → a.line ≡ done_line c → Changes state next (host_taken state.host t) e (Some (front_taken t h)) → Quiet next a.state → Acts a state [] []
   closes : {state next : State} (e : EndpointName) (h : Endpoint) (lines : List (List ℕ)) → endpoint_under state e ≡ Some h → says_done a.line ≡ false
-      → Changes state next (after_close host_calls state.host (endpoint_state h)) e None → Quiet next a.state → Acts few a state (record { endpoint = h; past = state.host.kernel.past; lines = lines } ∷ []) []
+      → Changes state next (after_close host_calls state.host h.state) e None → Quiet next a.state → Acts a state (record { endpoint = h; past = state.host.kernel.past; lines = lines } ∷ []) []
   moves : {state next : State} (from to : EndpointName) (h g : Endpoint) → endpoint_under state from ≡ Some h → endpoint_under state to ≡ None → SameTickets h g
-      → ((IsStream from → h.was_streamed ≡ true) → g.was_streamed ≡ true) → says_done a.line ≡ false → MovesTo state next from to g → Quiet next a.state → Acts few a state [] []
+      → ((IsStream from → h.was_streamed ≡ true) → g.was_streamed ≡ true) → says_done a.line ≡ false → MovesTo state next from to g → Quiet next a.state → Acts a state [] []
 
 -- what the answer of a line does that closes no endpoint, and hands in no control transfer
 abbrev pub Does : State → Answer → Type 0
-Does state a = Acts (TookFew state) a state [] []
+Does state a = Acts a state [] []
 
 pub quiet-then : {a b c : State} → Quiet a b → Quiet b c → Quiet a c
 quiet-then {a} {b} {c} first second =
@@ -201,16 +198,16 @@ unfolding stepped_all
 quiet-stepped state steps = quiet-then (quiet-lent state steps) (quiet-rested (with_steps state steps))
 
 -- a line that only asks, and the lines of calls that give no value
-pub told-does : {few : Type 0} (state : State) (line : List ℕ) → says_done line ≡ false → Acts few (answer_with state line) state [] []
+pub told-does : (state : State) (line : List ℕ) → says_done line ≡ false → Acts (answer_with state line) state [] []
 told-does state line other = ends other (quiet-same state)
 
-pub barred-does : {few : Type 0} (state : State) → Acts few (condition_answer state) state [] []
+pub barred-does : (state : State) → Acts (condition_answer state) state [] []
 barred-does state = told-does state condition_line refl
 
-pub ok-does : {few : Type 0} (state : State) → Acts few (ok_answer state) state [] []
+pub ok-does : (state : State) → Acts (ok_answer state) state [] []
 ok-does state = told-does state ok_line refl
 
-pub error-does : {few : Type 0} (state : State) (error : ErrorState) → Acts few (error_answer state error) state [] []
+pub error-does : (state : State) (error : ErrorState) → Acts (error_answer state error) state [] []
 unfolding error_line
 error-does state error = told-does state (error_line error) refl
 
@@ -220,18 +217,18 @@ named-does {state} None call does = barred-does state
 named-does (Some x) call does = does x refl
 
 -- an endpoint is closed, where one is open under its name
-pub closing-does : {few : Type 0} {X : Type 0} (state : State) (e : EndpointName) (lines : EndpointName → List (List ℕ)) (o : Option X) (its : X → Endpoint) (a : Option X → Answer) (without : X → State)
+pub closing-does : {X : Type 0} (state : State) (e : EndpointName) (lines : EndpointName → List (List ℕ)) (o : Option X) (its : X → Endpoint) (a : Option X → Answer) (without : X → State)
     → endpoint_under state e ≡ option_map its o → says_done (a None).line ≡ false → Quiet state (a None).state → ((x : X) → says_done (a (Some x)).line ≡ false)
-    → ((x : X) → o ≡ Some x → Changes state (without x) (after_close host_calls state.host (endpoint_state (its x))) e None) → ((x : X) → Quiet (without x) (a (Some x)).state)
-    → Acts few (a o) state (closed_under state lines e) []
-closing-does {few} state e lines None its a without here none same other changes quiet =
-    subst (λ p. Acts few (a None) state (closed_as state.host.kernel.past (lines e) p) []) (sym here) (ends none same)
-closing-does {few} state e lines (Some x) its a without here none same other changes quiet =
-    subst (λ p. Acts few (a (Some x)) state (closed_as state.host.kernel.past (lines e) p) []) (sym here) (closes e (its x) (lines e) here (other x) (changes x refl) (quiet x))
+    → ((x : X) → o ≡ Some x → Changes state (without x) (after_close host_calls state.host (its x).state) e None) → ((x : X) → Quiet (without x) (a (Some x)).state)
+    → Acts (a o) state (closed_under state lines e) []
+closing-does state e lines None its a without here none same other changes quiet =
+    subst (λ p. Acts (a None) state (closed_as state.host.kernel.past (lines e) p) []) (sym here) (ends none same)
+closing-does state e lines (Some x) its a without here none same other changes quiet =
+    subst (λ p. Acts (a (Some x)) state (closed_as state.host.kernel.past (lines e) p) []) (sym here) (closes e (its x) (lines e) here (other x) (changes x refl) (quiet x))
 
 -- an act of the end of a session closes what is open under a name, if anything is
 abbrev pub Closing : (State → ℕ → State) → (ℕ → EndpointName) → Type 0
-Closing act name = (state : State) (n : ℕ) (lines : EndpointName → List (List ℕ)) → Acts (Unit {0}) (silent (act state n)) state (closed_under state lines (name n)) []
+Closing act name = (state : State) (n : ℕ) (lines : EndpointName → List (List ℕ)) → Acts (silent (act state n)) state (closed_under state lines (name n)) []
 
 -- the state behind a change has the host that the change names
 pub at-host : {old new : State} {host : HostState} {e : EndpointName} {o : Option Endpoint} (P : State → Type 0) → Changes old new host e o → P (with_host new host) → P new
@@ -242,40 +239,38 @@ pub own-changes : (state : State) (host : HostState) (after : List (Option Endpo
 own-changes state host after e o c =
     record {
       host_is = refl;
-      endpoints = own-changed (λ (x : Reader). x.endpoint) (λ (x : Writer). x.endpoint) state.endpoints state.readers state.writers after e o c;
+      endpoints = own-changed endpoint_of_reader endpoint_of_writer state.endpoints state.readers state.writers after e o c;
       names = ap (λ n. record { own = n; readers = length state.readers; writers = length state.writers }) c.length;
       futures = refl;
     }
 
 pub reader-changes : (state : State) (host : HostState) (after : List (Option Reader)) (r : ℕ) (o : Option Reader) → ChangedAt state.readers after r o
-    → Changes state (record state { host = host; readers = after }) host (OfReader r) (option_map (λ (x : Reader). x.endpoint) o)
+    → Changes state (record state { host = host; readers = after }) host (OfReader r) (option_map endpoint_of_reader o)
 reader-changes state host after r o c =
     record {
       host_is = refl;
-      endpoints = reader-changed (λ (x : Reader). x.endpoint) (λ (x : Writer). x.endpoint) state.endpoints state.readers state.writers after r o c;
+      endpoints = reader-changed endpoint_of_reader endpoint_of_writer state.endpoints state.readers state.writers after r o c;
       names = ap (λ n. record { own = length state.endpoints; readers = n; writers = length state.writers }) c.length;
       futures = refl;
     }
 
 pub writer-changes : (state : State) (host : HostState) (after : List (Option Writer)) (w : ℕ) (o : Option Writer) → ChangedAt state.writers after w o
-    → Changes state (record state { host = host; writers = after }) host (OfWriter w) (option_map (λ (x : Writer). x.endpoint) o)
+    → Changes state (record state { host = host; writers = after }) host (OfWriter w) (option_map endpoint_of_writer o)
 writer-changes state host after w o c =
     record {
       host_is = refl;
-      endpoints = writer-changed (λ (x : Reader). x.endpoint) (λ (x : Writer). x.endpoint) state.endpoints state.readers state.writers after w o c;
+      endpoints = writer-changed endpoint_of_reader endpoint_of_writer state.endpoints state.readers state.writers after w o c;
       names = ap (λ n. record { own = length state.endpoints; readers = length state.readers; writers = n }) c.length;
       futures = refl;
     }
 
--- a change that keeps a part of what is open under a name
-map-kept : {X Y : Type 0} (v : X → Y) (f : X → X) → ((x : X) → v (f x) ≡ v x) → (o : Option X) → option_map v (option_map f o) ≡ option_map v o
-map-kept v f same None = refl
-map-kept v f same (Some x) = ap (λ y. Some y) (same x)
-
-pub kept-change : {X Y : Type 0} (v : X → Y) (f : X → X) → ((x : X) → v (f x) ≡ v x) → (xs : List (Option X)) (n m : ℕ) → option_map v (named (change_named f xs n) m) ≡ option_map v (named xs m)
-kept-change v f same xs n m =
+-- a change of what is open under a name (x) that keeps a part of it
+pub kept-change : {X Y : Type 0} (v : X → Y) (f : X → X) (xs : List (Option X)) (n m : ℕ) (x : X) → named xs n ≡ Some x → v (f x) ≡ v x → option_map v (named (change_named f xs n) m) ≡ option_map v (named xs m)
+kept-change v f xs n m x at same =
     elim (cases_eq m n) [
-      | inl is ↦ ap (λ k. option_map v (named (change_named f xs n) k)) is ∙ ap (option_map v) (named-change_same f xs n) ∙ map-kept v f same (named xs n) ∙ ap (λ k. option_map v (named xs k)) (sym is)
+      | inl is ↦
+          ap (λ k. option_map v (named (change_named f xs n) k)) is ∙ ap (option_map v) (named-change_same f xs n ∙ ap (option_map f) at) ∙ ap (λ y. Some y) same
+          ∙ sym (ap (λ k. option_map v (named xs k)) is ∙ ap (option_map v) at)
       | inr apart ↦ ap (option_map v) (named-change_other f xs n m apart)
     ]
 
@@ -297,20 +292,19 @@ try-does {state} call (Err error) refused does = subst (Does state) (sym (refuse
 try-does call (Ok x) refused does = does x
 
 -- with the steps of its line
-rest-does : {few : Type 0} {a : Answer} {state : State} {closed : List ClosedEndpoint} {handed : List ControlMove} → Acts few a state closed handed → Acts few (then_applied a) state closed handed
+rest-does : {a : Answer} {state : State} {closed : List ClosedEndpoint} {handed : List ControlMove} → Acts a state closed handed → Acts (then_applied a) state closed handed
 rest-does (goes quiet rest) = goes quiet (rest-does rest)
 rest-does (opens e x free none zero_ changes rest) = opens e x free none zero_ changes (rest-does rest)
-rest-does (submits e b h here few changes rest) = submits e b h here few changes (rest-does rest)
-rest-does (fits other rest) = fits other (λ few_. rest-does (rest few_))
-rest-does (reads e t h stream here front other changes rest) = reads e t h stream here front other changes (rest-does rest)
+rest-does (submits e b h here changes rest) = submits e b h here changes (rest-does rest)
+rest-does (reads e t ts h stream here front other changes rest) = reads e t ts h stream here front other changes (rest-does rest)
 rest-does (starts n request timeout device free rest) = starts n request timeout device free (rest-does rest)
 rest-does (controls host one adds rest) = controls host one adds (rest-does rest)
 rest-does (frees n f host here parts rest) = frees n f host here parts (rest-does rest)
 rest-does {a} (ends other quiet) = ends other (quiet-then quiet (quiet-rested a.state))
-rest-does {a} (takes e t h c here front came line changes quiet) = takes e t h c here front came line changes (quiet-then quiet (quiet-rested a.state))
+rest-does {a} (takes e t ts h c here front came line changes quiet) = takes e t ts h c here front came line changes (quiet-then quiet (quiet-rested a.state))
 rest-does {a} (closes e h lines here other changes quiet) = closes e h lines here other changes (quiet-then quiet (quiet-rested a.state))
 rest-does {a} (moves from to h g here free same read other moved quiet) = moves from to h g here free same read other moved (quiet-then quiet (quiet-rested a.state))
 
-pub along-does : {few : Type 0} {closed : List ClosedEndpoint} {handed : List ControlMove} (state : State) (steps : List KernelStep) (call : State → Answer)
-    → Acts few (call (with_steps state steps)) (with_steps state steps) closed handed → Acts few (along_steps state steps call) state closed handed
+pub along-does : {closed : List ClosedEndpoint} {handed : List ControlMove} (state : State) (steps : List KernelStep) (call : State → Answer)
+    → Acts (call (with_steps state steps)) (with_steps state steps) closed handed → Acts (along_steps state steps call) state closed handed
 along-does state steps call does = goes (quiet-lent state steps) (rest-does does)

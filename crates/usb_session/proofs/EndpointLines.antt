@@ -1,5 +1,5 @@
 -- What the calls on endpoints do.
-use Rattle.std.proofs.Common.{◌≡◌, ℕ, ◌≤◌, arith, List, [], ◌∷◌, ◌++◌, length, drop, length-drop, Option, Some, None, Result, true, false, refl, ap, sym, ◌∙◌, slice_get}
+use Rattle.std.proofs.Common.{◌≡◌, ℕ, arith, List, [], ◌∷◌, ◌++◌, length, drop, Option, Some, None, Result, true, false, refl, ap, sym, ◌∙◌, subst, slice_get}
 use Rattle.std.specs.Prelude.{not, ◌||◌, ◌==◌, nat_le, is_some}
 use Rattle.std.specs.Option.{option_map}
 use Rattle.std.proofs.lemmas.Bool.{or_parts, eqb-true, not-false}
@@ -13,7 +13,7 @@ use Rattle.usb_error.specs.Errors.{clear_halt_error}
 use Rattle.usb_device_endpoint.specs.CallErrors.{or_error}
 use Rattle.usb_kernel.specs.declared.event.Event.{Event}
 use Rattle.usb_kernel.specs.Info.{unreaped}
-use Rattle.usb_kernel.proofs.Places.{slice_get-append_seam}
+use Rattle.std.proofs.lemmas.Option.{none-some, same_Some}
 use Rattle.usb_kernel.specs.TransferCompletions.{transfer_completion}
 use Rattle.usb_device_endpoint.specs.EndpointState.{EndpointState}
 use Rattle.usb_device_endpoint.specs.Closes.{after_close}
@@ -33,12 +33,12 @@ use Rattle.usb_session_calls.specs.declared.call.EndpointCall.{EndpointCall}
 use Rattle.usb_session_calls.specs.declared.call.EndpointCall.TheVariants.{SubmitIn, SubmitOut, Pending, Poll, Wait, TransferIn, TransferOut, Cancel, ClearHalt}
 use Rattle.usb_session_calls.specs.Buffers.{in_buffer, out_buffer}
 use Rattle.usb_session_calls.specs.EndpointCalls.{endpoint_called, on_endpoint}
-use Rattle.usb_session_calls.specs.State.{State, Endpoint, endpoint_state, pending, tickets_of, with_host}
+use Rattle.usb_session_calls.specs.State.{State, Endpoint, tickets_of, with_host}
 use Rattle.usb_session_calls.specs.Answer.{condition_answer, ok_answer, silent, if_open}
 use Rattle.usb_session_calls.specs.OpenAt.{InterfaceAt, interface_at}
 use Rattle.usb_session_calls.specs.Endpoints.{new_endpoint, endpoint_as, endpoint_answer}
 use Rattle.usb_session_calls.specs.Submits.{with_submission, submitted, submit_on, has_direction}
-use Rattle.usb_session_calls.specs.Polls.{one_taken, taken_from, took, poll_on}
+use Rattle.usb_session_calls.specs.Polls.{front_taken, taken_from, took, poll_on}
 use Rattle.usb_session_calls.specs.Waits.{wait_on}
 use Rattle.usb_session_calls.specs.Transfers.{bars_transfer, with_taken, transfer_made, transfer_on}
 use Rattle.usb_session_calls.specs.Closes.{without_endpoint, close_answer, closed_at, closed}
@@ -73,75 +73,83 @@ changed-own state f e h here host = own-changes state host (change_named f state
 
 -- a ticket is submitted
 submit_on-does : (state : State) (direction : Direction) (e : ℕ) (b : BufferState) (h : Endpoint) → named state.endpoints e ≡ Some h → Does state (submit_on state direction e b h)
-submit_on-does state direction e b h here = bar-does (λ no_. submits (Own e) b h here (λ few. few (Own e) h here)
-    (changed-own state (with_submission (tickets_of state)) e h here (entered host_calls state.host (endpoint_state h) b)) (ok-does (submitted state e b h)))
+submit_on-does state direction e b h here = bar-does (λ no_. submits (Own e) b h here
+    (changed-own state (with_submission (tickets_of state)) e h here (entered host_calls state.host h.state b)) (ok-does (submitted state e b h)))
 
--- the ticket at the place of those that were taken is taken
-took-does : (line : Option Completion → List ℕ) (state : State) (e t : ℕ) (h : Endpoint) (o : Option Completion) → says_done (line None) ≡ false → ((c : Completion) → line (Some c) ≡ done_line c) → named state.endpoints e ≡ Some h → slice_get h.tickets h.taken ≡ Some t → transfer_completion state.host.kernel.past t ≡ o → Does state (took line state e t o)
+-- the oldest pending ticket is taken
+first-of : (l : List ℕ) (t : ℕ) → slice_get l 0 ≡ Some t → (ts : List ℕ) × (l ≡ t ∷ ts)
+first-of [] t is = absurd (none-some t is)
+first-of (u ∷ us) t is = (us, ap (λ v. v ∷ us) (same_Some u t is))
+
+took-does : (line : Option Completion → List ℕ) (state : State) (e t : ℕ) (h : Endpoint) (o : Option Completion) → says_done (line None) ≡ false → ((c : Completion) → line (Some c) ≡ done_line c) → named state.endpoints e ≡ Some h → slice_get h.state.pending 0 ≡ Some t → transfer_completion state.host.kernel.past t ≡ o → Does state (took line state e t o)
 took-does line state e t h None other done here front is = told-does state (line None) other
-took-does line state e t h (Some c) other done here front is = takes (Own e) t h c here (λ few. front) is (done c)
-    (changed-own state one_taken e h here (host_taken state.host t)) (quiet-same (taken_from state e t))
+took-does line state e t h (Some c) other done here front is =
+    let first = first-of h.state.pending t front in
+    takes (Own e) t first.0 h c here first.1 is (done c) (changed-own state (front_taken t) e h here (host_taken state.host t)) (quiet-same (taken_from state e t))
 
-poll_on-does : (state : State) (e : ℕ) (h : Endpoint) (o : Option ℕ) → named state.endpoints e ≡ Some h → slice_get h.tickets h.taken ≡ o → Does state (poll_on state e o)
+poll_on-does : (state : State) (e : ℕ) (h : Endpoint) (o : Option ℕ) → named state.endpoints e ≡ Some h → slice_get h.state.pending 0 ≡ o → Does state (poll_on state e o)
 poll_on-does state e h None here front = barred-does state
 poll_on-does state e h (Some t) here front = took-does polled_line state e t h (transfer_completion state.host.kernel.past t) refl (λ c. refl) here front refl
 
-wait_on-does : (state : State) (e timeout : ℕ) (h : Endpoint) (o : Option ℕ) → named state.endpoints e ≡ Some h → slice_get h.tickets h.taken ≡ o → Does state (wait_on state e timeout o)
+wait_on-does : (state : State) (e timeout : ℕ) (h : Endpoint) (o : Option ℕ) → named state.endpoints e ≡ Some h → slice_get h.state.pending 0 ≡ o → Does state (wait_on state e timeout o)
 wait_on-does state e timeout h None here front = barred-does state
 wait_on-does state e timeout h (Some t) here front =
     let mid = with_host state (waited host_calls t timeout state.host) in
     goes (record { keeps = on-waited state.host t timeout; count = waited-count state.host t timeout; endpoints = λ d. refl; names = refl; futures = refl })
     (took-does waited_line mid e t h (transfer_completion mid.host.kernel.past t) refl (λ c. refl) here front refl)
 
+no-tickets : (l : List ℕ) → length l ≡ 0 → l ≡ []
+no-tickets [] none = refl
+no-tickets (t ∷ ts) none = absurd (omega (arith, none))
+
 -- a blocking transfer at an endpoint where none is pending: its ticket is submitted, comes, and is taken
-transfer-free : (past : List Event) (direction : Direction) (h : EndpointState) → bars_transfer past direction h ≡ false → length h.pending ≡ 0
+transfer-free : (past : List Event) (direction : Direction) (h : EndpointState) → bars_transfer past direction h ≡ false → h.pending ≡ []
 transfer-free past direction h allowed =
     let others = or_parts (not (has_direction direction h)) (not (length h.pending == 0) || nat_le 1024 (unreaped past)) allowed in
     let none = or_parts (not (length h.pending == 0)) (nat_le 1024 (unreaped past)) others.1 in
-    eqb-true (length h.pending) 0 (not-false (length h.pending == 0) none.0)
+    no-tickets h.pending (eqb-true (length h.pending) 0 (not-false (length h.pending == 0) none.0))
 
 pub some-of : {X : Type 0} (o : Option X) → is_some o ≡ true → (x : X) × (o ≡ Some x)
 some-of None is = absurd (cc)
 some-of (Some x) is = (x, refl)
 
-pushed-front : (n : ℕ) (xs : List ℕ) (x : ℕ) → n ≤ length xs → length (drop n xs) ≡ 0 → slice_get (xs ++ x ∷ []) n ≡ Some x
-pushed-front n xs x within none = let all : n ≡ length xs = omega (arith, length-drop n xs) in ap (slice_get (xs ++ x ∷ [])) all ∙ slice_get-append_seam xs x
-
-transfer_made-does : (state : State) (e : ℕ) (b : BufferState) (timeout : ℕ) (h : Endpoint) → named state.endpoints e ≡ Some h → length (pending h) ≡ 0 → Does state (transfer_made state e b timeout h)
+transfer_made-does : (state : State) (e : ℕ) (b : BufferState) (timeout : ℕ) (h : Endpoint) → named state.endpoints e ≡ Some h → h.state.pending ≡ [] → Does state (transfer_made state e b timeout h)
 transfer_made-does state e b timeout h here none =
     let n = tickets_of state in
     let sent = submitted state e b h in
     let last = with_host sent (blocked host_calls n timeout sent.host) in
-    let one = entered-count state.host (endpoint_state h) b in
+    let one = entered-count state.host h.state b in
     let found = some-of (transfer_completion last.host.kernel.past n) (blocked-found sent.host n timeout (omega (arith, one.past))) in
-    let first = changed-own state (with_submission n) e h here (entered host_calls state.host (endpoint_state h) b) in
+    let first = changed-own state (with_submission n) e h here (entered host_calls state.host h.state b) in
     let here_last = changed-own state (with_submission n) e h here last.host in
     let whole = changed-own state (with_taken n) e h here (host_taken last.host n) in
-    submits (Own e) b h here (λ few. few (Own e) h here) first (goes {next = last} (record { keeps = on-blocked sent.host n timeout; count = blocked-count sent.host n timeout; endpoints = λ d. refl; names = refl; futures = refl })
-    (takes {state = last} {next = (transfer_made state e b timeout h).state} (Own e) n (with_submission n h) found.0 first.endpoints.here
-    (λ few. pushed-front h.taken h.tickets n (few (Own e) h here) none) found.1 (ap waited_line found.1)
-    (then-changes here_last whole) (quiet-same (transfer_made state e b timeout h).state)))
+    let front : (with_submission n h).state.pending ≡ n ∷ [] = ap (λ (l : List ℕ). l ++ n ∷ []) none in
+    let taken : with_taken n h ≡ front_taken n (with_submission n h) =
+        ap (λ (l : List ℕ). record h { state = record h.state { pending = l }; taken = h.taken ++ n ∷ [] }) (none ∙ sym (ap (λ (l : List ℕ). drop 1 l) front)) in
+    submits (Own e) b h here first (goes {next = last} (record { keeps = on-blocked sent.host n timeout; count = blocked-count sent.host n timeout; endpoints = λ d. refl; names = refl; futures = refl })
+    (takes {state = last} {next = (transfer_made state e b timeout h).state} (Own e) n [] (with_submission n h) found.0 first.endpoints.here front found.1 (ap waited_line found.1)
+    (subst (λ g. Changes last (transfer_made state e b timeout h).state (host_taken last.host n) (Own e) (Some g)) taken (then-changes here_last whole)) (quiet-same (transfer_made state e b timeout h).state)))
 
 transfer_on-does : (state : State) (direction : Direction) (e : ℕ) (b : BufferState) (timeout : ℕ) (h : Endpoint) → named state.endpoints e ≡ Some h → Does state (transfer_on state direction e b timeout h)
 transfer_on-does state direction e b timeout h here =
-    bar-does (λ allowed. transfer_made-does state e b timeout h here (transfer-free state.host.kernel.past direction (endpoint_state h) allowed))
+    bar-does (λ allowed. transfer_made-does state e b timeout h here (transfer-free state.host.kernel.past direction h.state allowed))
 
 -- so each call at an endpoint that is open
 called-does : (state : State) (e : ℕ) (h : Endpoint) (call : EndpointCall) → named state.endpoints e ≡ Some h → Does state (endpoint_called call state e h)
 unfolding count_line
 called-does state e h (SubmitIn n) here = submit_on-does state In e (in_buffer n) h here
 called-does state e h (SubmitOut bytes) here = submit_on-does state Out e (out_buffer bytes) h here
-called-does state e h Pending here = told-does state (count_line (length (pending h))) refl
-called-does state e h Poll here = poll_on-does state e h (slice_get h.tickets h.taken) here refl
-called-does state e h (Wait timeout) here = wait_on-does state e timeout h (slice_get h.tickets h.taken) here refl
+called-does state e h Pending here = told-does state (count_line (length h.state.pending)) refl
+called-does state e h Poll here = poll_on-does state e h (slice_get h.state.pending 0) here refl
+called-does state e h (Wait timeout) here = wait_on-does state e timeout h (slice_get h.state.pending 0) here refl
 called-does state e h (TransferIn n timeout) here = transfer_on-does state In e (in_buffer n) timeout h here
 called-does state e h (TransferOut bytes timeout) here = transfer_on-does state Out e (out_buffer bytes) timeout h here
 called-does state e h Cancel here =
-    ends refl (record { keeps = on-all_discarded state.host (pending h); count = all_discarded-count state.host (pending h); endpoints = λ d. refl; names = refl; futures = refl })
+    ends refl (record { keeps = on-all_discarded state.host h.state.pending; count = all_discarded-count state.host h.state.pending; endpoints = λ d. refl; names = refl; futures = refl })
 called-does state e h ClearHalt here =
-    let aside = halt-aside state.host h.device h.address in
-    ends (result-other (or_error clear_halt_error (host_halt_result state.host h.device h.address)))
-    (quiet-aside state (with_host state (host_halt_cleared state.host h.device h.address)) aside.past aside.handles.tickets (λ d. refl) refl refl)
+    let aside = halt-aside state.host h.state.device h.state.address in
+    ends (result-other (or_error clear_halt_error (host_halt_result state.host h.state.device h.state.address)))
+    (quiet-aside state (with_host state (host_halt_cleared state.host h.state.device h.state.address)) aside.past aside.handles.tickets (λ d. refl) refl refl)
 
 pub on_endpoint-does : (state : State) (e : ℕ) (call : EndpointCall) → Does state (on_endpoint state e call)
 unfolding on_endpoint
@@ -152,16 +160,16 @@ map-id None = refl
 map-id (Some x) = refl
 
 -- an endpoint is closed
-closed-changes : (state : State) (e : ℕ) (h : Endpoint) → Changes state (without_endpoint state e h) (after_close host_calls state.host (endpoint_state h)) (Own e) None
-closed-changes state e h = own-changes state (after_close host_calls state.host (endpoint_state h)) (freed state.endpoints e) e None (freed-changes state.endpoints e)
+closed-changes : (state : State) (e : ℕ) (h : Endpoint) → Changes state (without_endpoint state e h) (after_close host_calls state.host h.state) (Own e) None
+closed-changes state e h = own-changes state (after_close host_calls state.host h.state) (freed state.endpoints e) e None (freed-changes state.endpoints e)
 
-pub closed-does : {few : Type 0} (state : State) (e : ℕ) (lines : EndpointName → List (List ℕ)) → Acts few (silent (closed state e)) state (closed_under state lines (Own e)) []
+pub closed-does : (state : State) (e : ℕ) (lines : EndpointName → List (List ℕ)) → Acts (silent (closed state e)) state (closed_under state lines (Own e)) []
 unfolding closed
 closed-does state e lines =
     closing-does state (Own e) lines (named state.endpoints e) (λ h. h) (λ o. silent (closed_at state e o)) (without_endpoint state e) (sym (map-id (named state.endpoints e))) refl (quiet-same state) (λ h. refl)
     (λ h is. closed-changes state e h) (λ h. quiet-same (without_endpoint state e h))
 
-pub close-does : {few : Type 0} (state : State) (e : ℕ) (lines : EndpointName → List (List ℕ)) → Acts few (close_answer state e) state (closed_under state lines (Own e)) []
+pub close-does : (state : State) (e : ℕ) (lines : EndpointName → List (List ℕ)) → Acts (close_answer state e) state (closed_under state lines (Own e)) []
 unfolding close_answer
 close-does state e lines =
     closing-does state (Own e) lines (named state.endpoints e) (λ h. h) (λ o. if_open o (λ h. ok_answer (without_endpoint state e h)) (condition_answer state)) (without_endpoint state e) (sym (map-id (named state.endpoints e))) refl (quiet-same state) (λ h. refl)

@@ -25,7 +25,6 @@ use Rattle.usb_session_calls.specs.Controls.{request_for, request_with}
 use Rattle.usb_session.specs.CallAnswers.{call_answer, line_answer}
 use Rattle.usb_session.specs.Crowded.{bars_line}
 use Rattle.usb_session.specs.Answers.{answer}
-use Rattle.usb_session.specs.Accounts.{TookFew}
 use Rattle.usb_session.specs.Served.{closed_by_call, closed_by}
 use Rattle.usb_session.proofs.Does.{Acts, ends, quiet-stepped, told-does, along-does}
 use Rattle.usb_session.proofs.DeviceLines.{open-does, clone_device-does, close_device-does, claim-does, clone_interface-does, close_interface-does, release-does, on_device-does, on_interface-does}
@@ -36,7 +35,7 @@ use Rattle.usb_session.proofs.WriterDoes.{writer-does, writer_inner-does, on_wri
 use Rattle.usb_session.proofs.ControlLines.{control_moves, moves-quiet, control-does, start-does, on_future-does, close_future-does}
 
 -- what is opened, and what is closed
-on_open-does : (state : State) (call : OpenCall) → Acts (TookFew state) (on_open state call) state [] (control_moves state (Open call) (on_open state call))
+on_open-does : (state : State) (call : OpenCall) → Acts (on_open state call) state [] (control_moves state (Open call) (on_open state call))
 on_open-does state (opens.Device d bus address) = open-does state d bus address
 on_open-does state (opens.Path d path) = open_path-does state d path
 on_open-does state (opens.CloneDevice name d) = clone_device-does state name d
@@ -51,7 +50,7 @@ on_open-does state (opens.ControlIn n target setup wanted timeout) = start-does 
 on_open-does state (opens.ControlOut n target setup bytes timeout) = start-does state n target (request_with setup bytes) timeout
 
 on_close-does : (state : State) (lines : EndpointName → List (List ℕ)) (call : CloseCall)
-    → Acts (TookFew state) (on_close state call) state (closed_by_call state lines (Close call)) (control_moves state (Close call) (on_close state call))
+    → Acts (on_close state call) state (closed_by_call state lines (Close call)) (control_moves state (Close call) (on_close state call))
 on_close-does state lines (closes.Device d) = close_device-does state d
 on_close-does state lines (closes.Interface i) = close_interface-does state i
 on_close-does state lines (closes.Release i) = release-does state i
@@ -62,7 +61,7 @@ on_close-does state lines (closes.Future n) = close_future-does state n
 
 -- each call, by its family
 pub call-does : (state : State) (lines : EndpointName → List (List ℕ)) (call : Call)
-    → Acts (TookFew state) (call_answer state call) state (closed_by_call state lines call) (control_moves state call (call_answer state call))
+    → Acts (call_answer state call) state (closed_by_call state lines call) (control_moves state call (call_answer state call))
 unfolding call_answer now_line
 call-does state lines Setup = told-does state [] refl
 call-does state lines (Steps steps) = ends refl (quiet-stepped state steps)
@@ -79,19 +78,19 @@ call-does state lines (Control call steps) = control-does state call steps
 call-does state lines (Future n call) = on_future-does state n call
 
 -- where the session is crowded a call does what its steps do
-crowded-does : (state : State) (call : Call) (line : Item) → Acts (TookFew state) (condition_answer (stepped_all state (steps_in line))) state [] (control_moves state call (condition_answer (stepped_all state (steps_in line))))
+crowded-does : (state : State) (call : Call) (line : Item) → Acts (condition_answer (stepped_all state (steps_in line))) state [] (control_moves state call (condition_answer (stepped_all state (steps_in line))))
 crowded-does state call line =
     let a = condition_answer (stepped_all state (steps_in line)) in
-    subst (λ ms. Acts (TookFew state) a state [] ms) (sym (moves-quiet state call a (quiet-stepped state (steps_in line)))) (ends refl (quiet-stepped state (steps_in line)))
+    subst (λ ms. Acts a state [] ms) (sym (moves-quiet state call a (quiet-stepped state (steps_in line)))) (ends refl (quiet-stepped state (steps_in line)))
 
 -- both, by whether the session is crowded
 abbrev answer_if : State → Item → Bool → Answer
 answer_if state line b = if b then condition_answer (stepped_all state (steps_in line)) else line_answer state line
 
-pub answer-does : (state : State) (lines : EndpointName → List (List ℕ)) (line : Item) → Acts (TookFew state) (answer state line) state (closed_by state lines line) (control_moves state (call_of line) (answer state line))
+pub answer-does : (state : State) (lines : EndpointName → List (List ℕ)) (line : Item) → Acts (answer state line) state (closed_by state lines line) (control_moves state (call_of line) (answer state line))
 unfolding answer
 answer-does state lines line = by (bars_line state line)
   where
-    by : (b : Bool) → Acts (TookFew state) (answer_if state line b) state (if b then [] else closed_by_call state lines (call_of line)) (control_moves state (call_of line) (answer_if state line b))
+    by : (b : Bool) → Acts (answer_if state line b) state (if b then [] else closed_by_call state lines (call_of line)) (control_moves state (call_of line) (answer_if state line b))
     by true = crowded-does state (call_of line) line
     by false = call-does state lines (call_of line)

@@ -65,25 +65,17 @@ prints-more past ts t lines line came is p =
       are = ap (λ l. l ++ line ∷ []) p.are ∙ (ap (λ x. map (line_in past) ts ++ x ∷ []) is ∙ sym (map-append (line_in past) ts (t ∷ [])));
     }
 
--- the tickets that were taken of an endpoint, and of what is open under a name
-abbrev pub taken_of : Endpoint → List ℕ
-taken_of h = take h.taken h.tickets
-
-abbrev pub taken_in : Option Endpoint → List ℕ
-taken_in None = []
-taken_in (Some h) = taken_of h
-
 -- of what is open under a name now, and of which no reader or writer was made, an answer took no ticket more; or it took one, and printed its completion
 pub data Takes (state : State) (a : Answer) (e : EndpointName) (g : Endpoint) : Type 0 where
-  none : was_streamed_under state e ≡ false → g.taken ≡ taken_under state e → taken_of g ≡ taken_in (endpoint_under state e) → Takes state a e g
-  next : (t : ℕ) (c : Completion) → was_streamed_under state e ≡ false → g.taken ≡ suc (taken_under state e) → taken_of g ≡ taken_in (endpoint_under state e) ++ t ∷ [] → transfer_completion a.state.host.kernel.past t ≡ Some c → a.line ≡ done_line c → Takes state a e g
+  none : was_streamed_under state e ≡ false → g.taken ≡ taken_under state e → Takes state a e g
+  next : (t : ℕ) (c : Completion) → was_streamed_under state e ≡ false → g.taken ≡ taken_under state e ++ t ∷ [] → transfer_completion a.state.host.kernel.past t ≡ Some c → a.line ≡ done_line c → Takes state a e g
 
 -- the lines of all that is open, and of which no reader or writer was made
 abbrev pub AllPrint : State → (EndpointName → List (List ℕ)) → Type 0
-AllPrint state lines = (e : EndpointName) (h : Endpoint) → endpoint_under state e ≡ Some h → h.was_streamed ≡ false → Prints state.host.kernel.past (taken_of h) (lines e)
+AllPrint state lines = (e : EndpointName) (h : Endpoint) → endpoint_under state e ≡ Some h → h.was_streamed ≡ false → Prints state.host.kernel.past h.taken (lines e)
 
-pub count-under : (state : State) (e : EndpointName) (h : Endpoint) → endpoint_under state e ≡ Some h → taken_under state e ≡ h.taken
-count-under state e h is = ap (λ (o : Option Endpoint). option_map_or (λ (x : Endpoint). x.taken) o 0) is
+pub taken-of : (state : State) (e : EndpointName) (h : Endpoint) → endpoint_under state e ≡ Some h → taken_under state e ≡ h.taken
+taken-of state e h is = ap (λ (o : Option Endpoint). option_map_or (λ (x : Endpoint). x.taken) o []) is
 
 pub read-under : (state : State) (e : EndpointName) (h : Endpoint) → endpoint_under state e ≡ Some h → was_streamed_under state e ≡ h.was_streamed
 read-under state e h is = ap (λ (o : Option Endpoint). option_map_or (λ (x : Endpoint). x.was_streamed) o false) is
@@ -91,7 +83,7 @@ read-under state e h is = ap (λ (o : Option Endpoint). option_map_or (λ (x : E
 prints-none : (past : List Event) → Prints past [] []
 prints-none past = record { came = All-nil (HasCame past); are = refl }
 
-prints-in : (past : List Event) (lines : List (List ℕ)) (o : Option Endpoint) → ((h : Endpoint) → o ≡ Some h → Prints past (taken_of h) lines) → Prints past (taken_in o) (if is_none o then [] else lines)
+prints-in : (past : List Event) (lines : List (List ℕ)) (o : Option Endpoint) → ((h : Endpoint) → o ≡ Some h → Prints past h.taken lines) → Prints past (option_map_or (λ (x : Endpoint). x.taken) o []) (if is_none o then [] else lines)
 prints-in past lines None prints = prints-none past
 prints-in past lines (Some h) prints = prints h refl
 
@@ -104,14 +96,14 @@ not_more n m same = grind (arith, nat_tests)
 pub one_more : (n m : ℕ) → m ≡ suc n → nat_lt n m ≡ true
 one_more n m more = grind (arith, nat_tests)
 
-one-prints : (state : State) (a : Answer) (lines : EndpointName → List (List ℕ)) (e : EndpointName) (g : Endpoint) → Extends state.host.kernel.past a.state.host.kernel.past → endpoint_under a.state e ≡ Some g → g.was_streamed ≡ false → AllPrint state lines → Takes state a e g → Prints a.state.host.kernel.past (taken_of g) (lines_behind state a lines e)
+one-prints : (state : State) (a : Answer) (lines : EndpointName → List (List ℕ)) (e : EndpointName) (g : Endpoint) → Extends state.host.kernel.past a.state.host.kernel.past → endpoint_under a.state e ≡ Some g → g.was_streamed ≡ false → AllPrint state lines → Takes state a e g → Prints a.state.host.kernel.past g.taken (lines_behind state a lines e)
 one-prints state a lines e g extends is unread all takes = by takes
   where
     past : List Event
     past = a.state.host.kernel.past
 
     was : List ℕ
-    was = taken_in (endpoint_under state e)
+    was = taken_under state e
 
     printed : List (List ℕ)
     printed = if is_none (endpoint_under state e) then [] else lines e
@@ -120,18 +112,20 @@ one-prints state a lines e g extends is unread all takes = by takes
     before none_read = prints-stay state.host.kernel.past past was printed extends (prints-in state.host.kernel.past (lines e) (endpoint_under state e) (λ h at. all e h at (sym (read-under state e h at) ∙ none_read)))
 
     now : taken_under a.state e ≡ g.taken
-    now = count-under a.state e g is
+    now = taken-of a.state e g is
 
     unread_now : was_streamed_under a.state e ≡ false
     unread_now = read-under a.state e g is ∙ unread
 
-    by : Takes state a e g → Prints past (taken_of g) (lines_behind state a lines e)
-    by (none none_read count same) =
-        let stays = not_more (taken_under state e) (taken_under a.state e) (now ∙ count) in
-        prints-are past was (taken_of g) printed (lines_behind state a lines e) same (rw stays (append-nil printed)) (before none_read)
-    by (next t c none_read count same came line) =
-        let more = one_more (taken_under state e) (taken_under a.state e) (now ∙ count) in
-        prints-are past (was ++ t ∷ []) (taken_of g) (printed ++ a.line ∷ []) (lines_behind state a lines e) same (rw (more, unread_now) refl)
+    by : Takes state a e g → Prints past g.taken (lines_behind state a lines e)
+    by (none none_read same) =
+        let stays = not_more (length was) (length (taken_under a.state e)) (ap (λ l. length l) (now ∙ same)) in
+        prints-are past was g.taken printed (lines_behind state a lines e) same (rw stays (append-nil printed)) (before none_read)
+    by (next t c none_read same came line) =
+        let size = length-append was (t ∷ []) in
+        let count : length (taken_under a.state e) ≡ length (was ++ t ∷ []) = ap (λ l. length l) (now ∙ same) in
+        let more = one_more (length was) (length (taken_under a.state e)) (omega (arith, size, count)) in
+        prints-are past (was ++ t ∷ []) g.taken (printed ++ a.line ∷ []) (lines_behind state a lines e) same (rw (more, unread_now) refl)
         (prints-more past was t printed a.line (record { completion = c; is = came }) (line ∙ ap polled_line (sym came)) (before none_read))
 
 pub all-print : (state : State) (a : Answer) (lines : EndpointName → List (List ℕ)) → Extends state.host.kernel.past a.state.host.kernel.past → AllPrint state lines → ((e : EndpointName) (g : Endpoint) → endpoint_under a.state e ≡ Some g → g.was_streamed ≡ false → Takes state a e g) → AllPrint a.state (lines_behind state a lines)

@@ -1,5 +1,5 @@
 -- What the calls on readers do.
-use Rattle.std.proofs.Common.{◌≡◌, ℕ, ◌≤◌, ◌-◌, arith, Bool, true, false, List, [], length, take, map, Option, Some, None, Result, Ok, Err, refl, ap}
+use Rattle.std.proofs.Common.{◌≡◌, ℕ, ◌-◌, Bool, true, false, List, [], ◌++◌, length, take, map, Option, Some, None, Result, Ok, Err, refl, ap, sym, subst, append-nil, append_assoc}
 use Rattle.std.specs.Option.{option_map}
 use Rattle.std.specs.Prelude.{nat_lt}
 use Rattle.std.proofs.lemmas.Bool.{cond_both, and_parts}
@@ -22,17 +22,15 @@ use Rattle.usb_session_calls.specs.Names.{named, is_free, freed, set_name, chang
 use Rattle.usb_session_calls.specs.declared.call.ReaderCall.{ReaderCall}
 use Rattle.usb_session_calls.specs.declared.call.ReaderCall.TheVariants.{Read, PollRead, FillBuf, PollFillBuf, Consume, IsEnd, ConsumeEnd, SetNumTransfers, SetReadTimeout, Cancel}
 use Rattle.usb_session_calls.specs.CalledReaders.{reader_called, on_reader}
-use Rattle.usb_session_calls.specs.State.{State, Reader, endpoint_state, pending, state_of_reader}
-use Rattle.usb_session_calls.specs.BareReaders.{bare_of}
+use Rattle.usb_session_calls.specs.State.{State, Reader, tickets_at, endpoint_of_reader, tickets_of, with_host}
 use Rattle.usb_session_calls.specs.EndpointNames.{EndpointName, Own, OfReader, OfWriter, endpoint_under}
 use Rattle.usb_session_calls.proofs.NameLemmas.{free-none, length-change_named}
 use Rattle.usb_session_calls.proofs.EndpointNameLemmas.{set-changes, freed-changes, change-changes}
-use Rattle.usb_session_calls.specs.Readers.{nothing_consumed, with_none, as_streamed, with_reader, reader_answer, without_reader, inner_answer, called, with_count, num_on, closed_reader, reader_closed_at, reader_closed, close_reader_answer}
+use Rattle.usb_session_calls.specs.Readers.{nothing_consumed, with_none, taken_by_call, with_reader, reader_answer, without_reader, inner_answer, called, with_count, num_on, closed_reader, reader_closed_at, reader_closed, close_reader_answer}
 use Rattle.usb_session_streams.specs.ReaderCalls.{given_by}
 use Rattle.usb_session_calls.specs.Reads.{is_until_short, consumed_with, given_line, polled_given_line, bars_read, read_as, filled_as, read_on, fill_on, read_off}
 use Rattle.usb_session_calls.specs.Answer.{Answer, answer_with, condition_answer, ok_answer, silent, if_open}
 use Rattle.usb_device_endpoint.specs.Closes.{after_close}
-use Rattle.usb_session.specs.Accounts.{TookFew}
 use Rattle.usb_session.specs.Served.{closed_under}
 use Rattle.usb_session.proofs.CallLeads.{Leads, leads-start, leads-send, leads-wait, leads-take, called-acts}
 use Rattle.usb_session.proofs.Does.{Acts, Changes, Quiet, Does, says_done, ends, moves, kept-change, own-changes, reader-changes, quiet-aside, quiet-same, told-does, named-does, closing-does, free-does, bar-does}
@@ -44,8 +42,8 @@ reader-does state r e size =
     named-does (named state.endpoints e) _ (λ h here.
     free-does (λ free.
     free-does (λ in_.
-    let y : Reader = record { endpoint = as_streamed h; bare = bare_of (fresh_reader (endpoint_state h) size); before = take h.taken h.tickets; given = []; consumed = nothing_consumed h.tickets } in
-    moves (Own e) (OfReader r) h (as_streamed h) here (ap (option_map (λ (x : Reader). x.endpoint)) (free-none state.readers r free)) (record { key = refl; tickets = refl; taken = refl }) (λ was. refl) refl
+    let y : Reader = record { state = fresh_reader h.state size; before = h.taken; taken = []; given = []; consumed = nothing_consumed (tickets_at h) } in
+    moves (Own e) (OfReader r) h (endpoint_of_reader y) here (ap (option_map endpoint_of_reader) (free-none state.readers r free)) (record { key = refl; pending = refl; taken = append-nil h.taken }) (λ was. refl) refl
     (record {
       mid = record state { endpoints = freed state.endpoints e };
       gone = own-changes state state.host (freed state.endpoints e) e None (freed-changes state.endpoints e);
@@ -58,65 +56,68 @@ unfolding inner_answer
 inner-does state e r =
     named-does (named state.readers r) _ (λ x is.
     free-does (λ free.
-    moves (OfReader r) (Own e) x.endpoint x.endpoint (ap (option_map (λ (y : Reader). y.endpoint)) is) (free-none state.endpoints e free) (record { key = refl; tickets = refl; taken = refl }) (λ was. was tt) refl
+    moves (OfReader r) (Own e) (endpoint_of_reader x) (endpoint_of_reader x) (ap (option_map endpoint_of_reader) is) (free-none state.endpoints e free) (record { key = refl; pending = refl; taken = refl }) (λ was. was tt) refl
     (record {
       mid = record state { readers = freed state.readers r };
       gone = reader-changes state state.host (freed state.readers r) r None (freed-changes state.readers r);
-      put = own-changes (record state { readers = freed state.readers r }) state.host (set_name state.endpoints e x.endpoint) e (Some x.endpoint) (set-changes state.endpoints e x.endpoint free);
+      put = own-changes (record state { readers = freed state.readers r }) state.host (set_name state.endpoints e (endpoint_of_reader x)) e (Some (endpoint_of_reader x)) (set-changes state.endpoints e (endpoint_of_reader x) free);
     })
     (quiet-same (without_reader state e r x))))
 
 -- it is closed
-closed-changes : (state : State) (r : ℕ) (x : Reader) → Changes state (closed_reader state r x) (after_close host_calls state.host (endpoint_state x.endpoint)) (OfReader r) None
-closed-changes state r x = reader-changes state (after_close host_calls state.host (endpoint_state x.endpoint)) (freed state.readers r) r None (freed-changes state.readers r)
+closed-changes : (state : State) (r : ℕ) (x : Reader) → Changes state (closed_reader state r x) (after_close host_calls state.host x.state.endpoint) (OfReader r) None
+closed-changes state r x = reader-changes state (after_close host_calls state.host x.state.endpoint) (freed state.readers r) r None (freed-changes state.readers r)
 
-pub reader_closed-does : {few : Type 0} (state : State) (r : ℕ) (lines : EndpointName → List (List ℕ)) → Acts few (silent (reader_closed state r)) state (closed_under state lines (OfReader r)) []
+pub reader_closed-does : (state : State) (r : ℕ) (lines : EndpointName → List (List ℕ)) → Acts (silent (reader_closed state r)) state (closed_under state lines (OfReader r)) []
 unfolding reader_closed
 reader_closed-does state r lines =
-    closing-does state (OfReader r) lines (named state.readers r) (λ (x : Reader). x.endpoint) (λ o. silent (reader_closed_at state r o)) (closed_reader state r) refl refl (quiet-same state) (λ x. refl)
+    closing-does state (OfReader r) lines (named state.readers r) endpoint_of_reader (λ o. silent (reader_closed_at state r o)) (closed_reader state r) refl refl (quiet-same state) (λ x. refl)
     (λ x is. closed-changes state r x) (λ x. quiet-same (closed_reader state r x))
 
-pub close_reader-does : {few : Type 0} (state : State) (r : ℕ) (lines : EndpointName → List (List ℕ)) → Acts few (close_reader_answer state r) state (closed_under state lines (OfReader r)) []
+pub close_reader-does : (state : State) (r : ℕ) (lines : EndpointName → List (List ℕ)) → Acts (close_reader_answer state r) state (closed_under state lines (OfReader r)) []
 unfolding close_reader_answer
 close_reader-does state r lines =
-    closing-does state (OfReader r) lines (named state.readers r) (λ (x : Reader). x.endpoint) (λ o. if_open o (λ x. ok_answer (closed_reader state r x)) (condition_answer state)) (closed_reader state r) refl refl (quiet-same state) (λ x. refl)
+    closing-does state (OfReader r) lines (named state.readers r) endpoint_of_reader (λ o. if_open o (λ x. ok_answer (closed_reader state r x)) (condition_answer state)) (closed_reader state r) refl refl (quiet-same state) (λ x. refl)
     (λ x is. closed-changes state r x) (λ x. quiet-same (closed_reader state r x))
 
 -- a change of it that keeps its endpoint
-endpoint-kept : (f : Reader → Reader) (state : State) (r : ℕ) → ((x : Reader) → (f x).endpoint ≡ x.endpoint) → (e : EndpointName) → endpoint_under (record state { readers = change_named f state.readers r }) e ≡ endpoint_under state e
-endpoint-kept f state r same (Own e) = refl
-endpoint-kept f state r same (OfReader n) = kept-change (λ (x : Reader). x.endpoint) f same state.readers r n
-endpoint-kept f state r same (OfWriter n) = refl
+module _ (f : Reader → Reader) (state : State) (r : ℕ) (x : Reader) (at : named state.readers r ≡ Some x) (same : endpoint_of_reader (f x) ≡ endpoint_of_reader x) where
+  endpoint-kept : (e : EndpointName) → endpoint_under (record state { readers = change_named f state.readers r }) e ≡ endpoint_under state e
+  endpoint-kept (Own e) = refl
+  endpoint-kept (OfReader n) = kept-change endpoint_of_reader f state.readers r n x at same
+  endpoint-kept (OfWriter n) = refl
 
-kept-quiet : (f : Reader → Reader) (state : State) (r : ℕ) → ((x : Reader) → (f x).endpoint ≡ x.endpoint) → Quiet state (record state { readers = change_named f state.readers r })
-kept-quiet f state r same =
-    quiet-aside state (record state { readers = change_named f state.readers r }) refl refl (endpoint-kept f state r same)
-    (ap (λ n. record { own = length state.endpoints; readers = n; writers = length state.writers }) (length-change_named f state.readers r)) refl
+  kept-quiet : Quiet state (record state { readers = change_named f state.readers r })
+  kept-quiet =
+      quiet-aside state (record state { readers = change_named f state.readers r }) refl refl endpoint-kept
+      (ap (λ n. record { own = length state.endpoints; readers = n; writers = length state.writers }) (length-change_named f state.readers r)) refl
 
 -- a call goes on
 abbrev Led : State → ℕ → Reader → Answer → Reading HostState → Type 0
-Led state r x a w = Leads (TookFew state) a state (OfReader r) x.endpoint w.bus w.reader.endpoint
+Led state r x a w = Leads a state (OfReader r) (endpoint_of_reader x) w.bus w.reader.endpoint
 
 called-does : (state : State) (r : ℕ) (x : Reader) (consumed : Option (List Mark)) (bytes : List ℕ) (y : ReaderState) (w : Reading HostState) (line : List ℕ) (us : Bool) (timeout : ℕ) → named state.readers r ≡ Some x → says_done line ≡ false
-    → y.endpoint ≡ endpoint_state x.endpoint
+    → y.endpoint ≡ x.state.endpoint
     → (Keeps host_calls us timeout (Led state r x (answer_with (called state r consumed bytes w) line)) → Led state r x (answer_with (called state r consumed bytes w) line) (reading state.host y) → Led state r x (answer_with (called state r consumed bytes w) line) w)
     → Does state (answer_with (called state r consumed bytes w) line)
 called-does state r x consumed bytes y w line us timeout is other same keeps =
-    let few = TookFew state in
     let a = answer_with (called state r consumed bytes w) line in
     let e = OfReader r in
-    let h = x.endpoint in
-    let here = ap (option_map (λ (y : Reader). y.endpoint)) is in
-    called-acts state a e h w.bus w.reader.endpoint here other
-    (reader-changes state _ _ r _ (change-changes _ state.readers r x is)) (λ within.
+    let h = endpoint_of_reader x in
+    let here = ap (option_map endpoint_of_reader) is in
+    let by_call = taken_by_call (tickets_of state) (tickets_of (with_host state w.bus)) x.state.endpoint.pending w.reader.endpoint.pending in
+    let took : Changes state a.state w.bus e (Some (record { state = w.reader.endpoint; taken = x.before ++ (x.taken ++ by_call); was_streamed = true })) → Changes state a.state w.bus e (Some (record { state = w.reader.endpoint; taken = (x.before ++ x.taken) ++ by_call; was_streamed = true })) =
+        subst (λ (ts : List ℕ). Changes state a.state w.bus e (Some (record { state = w.reader.endpoint; taken = ts; was_streamed = true }))) (sym (append_assoc x.before x.taken by_call)) in
+    called-acts state a e h w.bus w.reader.endpoint tt refl here other
+    (took (reader-changes state _ _ r _ (change-changes _ state.readers r x is))) (
     keeps
     (record {
-      submission = λ w l. leads-send few a state e h tt here other w.bus w.reader.endpoint (fresh_buffer w.reader.size) l;
+      submission = λ w l. leads-send a state e h tt refl here other w.bus w.reader.endpoint (fresh_buffer w.reader.size) l;
       end = λ w goes l. l;
-      wait = λ w front others was l. leads-wait few a state e h tt here other w.bus w.reader.endpoint front timeout l;
-      taking = λ w front others c was goes came l. leads-take few a state e h tt here other w.bus w.reader.endpoint front others was l;
+      wait = λ w front others was l. leads-wait a state e h tt refl here other w.bus w.reader.endpoint front timeout l;
+      taking = λ w front others c was goes came l. leads-take a state e h tt refl here other w.bus w.reader.endpoint front others was l;
     })
-    (leads-start few a state e h tt here other y.endpoint same within))
+    (leads-start a state e h tt refl here other y.endpoint same))
 
 -- none of their lines is that of a completion
 fault-other : (fault : ReadFault) → says_done (read_fault_line fault) ≡ false
@@ -150,47 +151,47 @@ read_on-does : (state : State) (framing : Framing) (r most timeout : ℕ) (line 
     → Does state (read_on state framing r most timeout line x)
 read_on-does state framing r most timeout line x is other =
     let us = is_until_short framing in
-    let first = reading state.host (state_of_reader x) in
+    let first = reading state.host x.state in
     let came = read_came host_calls us timeout most first in
     bar-does {bars = bars_read state framing x} {call = read_as state framing r x line came} (λ no_.
-    called-does state r x (consumed_with framing (map Byte (given_by came.answer)) x.consumed) (given_by came.answer) (state_of_reader x) came.left (line came.answer) us timeout is (other came.answer) refl
+    called-does state r x (consumed_with framing (map Byte (given_by came.answer)) x.consumed) (given_by came.answer) x.state came.left (line came.answer) us timeout is (other came.answer) refl
     (λ keeps start. read-keeps host_calls us timeout _ keeps most first (λ v n l. l) start))
 
 fill_on-does : (state : State) (framing : Framing) (r timeout : ℕ) (line : Result (List ℕ) ReadFault → List ℕ) (x : Reader) → named state.readers r ≡ Some x → ((answer : Result (List ℕ) ReadFault) → says_done (line answer) ≡ false)
     → Does state (fill_on state framing r timeout line x)
 fill_on-does state framing r timeout line x is other =
     let us = is_until_short framing in
-    let first = reading state.host (state_of_reader x) in
+    let first = reading state.host x.state in
     let came = fill_came host_calls us timeout first in
     bar-does {bars = bars_read state framing x} {call = filled_as state framing r x line came} (λ no_.
-    called-does state r x (consumed_with framing [] x.consumed) [] (state_of_reader x) came.left (line came.answer) us timeout is (other came.answer) refl
+    called-does state r x (consumed_with framing [] x.consumed) [] x.state came.left (line came.answer) us timeout is (other came.answer) refl
     (λ keeps start. fill-keeps host_calls us timeout _ keeps first start))
 
 -- how many are to be pending is set
 num_on-does : (state : State) (r n : ℕ) (x : Reader) → named state.readers r ≡ Some x → Does state (num_on state r n x)
 num_on-does state r n x is =
     bar-does (λ no_.
-    let first = reading state.host (with_count n (state_of_reader x)) in
-    called-does state r x x.consumed [] (with_count n (state_of_reader x)) (filled_to host_calls (n - 1) first) ok_line false 0 is refl refl
+    let first = reading state.host (with_count n x.state) in
+    called-does state r x x.consumed [] (with_count n x.state) (filled_to host_calls (n - 1) first) ok_line false 0 is refl refl
     (λ keeps start. filled-keeps host_calls false 0 _ keeps (n - 1) first start))
 
 -- each call
 reader_called-does : (state : State) (r : ℕ) (x : Reader) (call : ReaderCall) → named state.readers r ≡ Some x → Does state (reader_called call state r x)
-reader_called-does state r x (Read framing most) is = read_on-does state framing r most x.bare.timeout (given_line read_line) x is (given-other read_line read-other)
+reader_called-does state r x (Read framing most) is = read_on-does state framing r most x.state.timeout (given_line read_line) x is (given-other read_line read-other)
 reader_called-does state r x (PollRead framing most) is = read_on-does state framing r most 0 (polled_given_line read_line) x is (polled-other read_line read-other)
-reader_called-does state r x (FillBuf framing) is = fill_on-does state framing r x.bare.timeout (given_line buffer_line) x is (given-other buffer_line buffer-other)
+reader_called-does state r x (FillBuf framing) is = fill_on-does state framing r x.state.timeout (given_line buffer_line) x is (given-other buffer_line buffer-other)
 reader_called-does state r x (PollFillBuf framing) is = fill_on-does state framing r 0 (polled_given_line buffer_line) x is (polled-other buffer_line buffer-other)
 reader_called-does state r x (Consume framing n) is =
-    let next = read_off state framing r x (map Byte (take n x.bare.unread)) (take n x.bare.unread) (with_read n (state_of_reader x)) in
-    bar-does {bars = nat_lt (length x.bare.unread) n} {call = ok_answer next} (λ no_. ends refl (kept-quiet _ state r (λ y. refl)))
-reader_called-does state r x IsEnd is = told-does state (is_end_line (is_end (state_of_reader x))) (end-other (is_end (state_of_reader x)))
+    let next = read_off state framing r x (map Byte (take n x.state.unread)) (take n x.state.unread) (with_read n x.state) in
+    bar-does {bars = nat_lt (length x.state.unread) n} {call = ok_answer next} (λ no_. ends refl (kept-quiet _ state r x is refl))
+reader_called-does state r x IsEnd is = told-does state (is_end_line (is_end x.state)) (end-other (is_end x.state))
 reader_called-does state r x ConsumeEnd is =
-    cond_both (is_end (state_of_reader x)) _ (answer_with state (consumed_end_line (Err (record {})))) (Does state)
-    (λ yes_. ends refl (kept-quiet _ state r (λ y. refl))) (λ no_. told-does state _ refl)
+    cond_both (is_end x.state) _ (answer_with state (consumed_end_line (Err (record {})))) (Does state)
+    (λ yes_. ends refl (kept-quiet _ state r x is refl)) (λ no_. told-does state _ refl)
 reader_called-does state r x (SetNumTransfers n) is = num_on-does state r n x is
-reader_called-does state r x (SetReadTimeout timeout) is = ends refl (kept-quiet _ state r (λ y. refl))
+reader_called-does state r x (SetReadTimeout timeout) is = ends refl (kept-quiet _ state r x is refl)
 reader_called-does state r x Cancel is =
-    ends refl (record { keeps = on-all_discarded state.host (pending x.endpoint); count = all_discarded-count state.host (pending x.endpoint); endpoints = endpoint-kept _ state r (λ y. refl); names = (kept-quiet with_none state r (λ y. refl)).names; futures = refl })
+    ends refl (record { keeps = on-all_discarded state.host x.state.endpoint.pending; count = all_discarded-count state.host x.state.endpoint.pending; endpoints = endpoint-kept with_none state r x is refl; names = (kept-quiet with_none state r x is refl).names; futures = refl })
 
 pub on_reader-does : (state : State) (r : ℕ) (call : ReaderCall) → Does state (on_reader state r call)
 unfolding on_reader

@@ -1,5 +1,5 @@
 -- What the calls on writers do.
-use Rattle.std.proofs.Common.{◌≡◌, ℕ, ◌≤◌, arith, false, List, [], ◌∷◌, length, Some, None, Result, Ok, Err, refl, ap}
+use Rattle.std.proofs.Common.{◌≡◌, ℕ, false, List, [], ◌∷◌, length, Some, None, Result, Ok, Err, refl, ap}
 use Rattle.std.specs.Option.{option_map}
 use Rattle.std.proofs.lemmas.Bool.{and_parts}
 use Rattle.usb_device_host.specs.HostState.{HostState}
@@ -21,17 +21,14 @@ use Rattle.usb_session_calls.specs.declared.call.WriterCall.{WriterCall}
 use Rattle.usb_session_calls.specs.declared.call.WriterCall.TheVariants as writers
 use Rattle.usb_session_calls.specs.declared.call.WriterCall.TheVariants.{Write, PollWrite, Submit, SubmitEnd, PollFlush, FlushEnd, PollFlushEnd, SetNumTransfers, SetWriteTimeout}
 use Rattle.usb_session_calls.specs.CalledWriters.{writer_called, on_writer}
-use Rattle.usb_session_calls.specs.State.{State, Writer, endpoint_state, state_of_writer}
-use Rattle.usb_session_calls.specs.BareWriters.{bare_writer}
+use Rattle.usb_session_calls.specs.State.{State, Writer, tickets_at, endpoint_of_writer}
 use Rattle.usb_session_calls.specs.EndpointNames.{EndpointName, Own, OfReader, OfWriter, endpoint_under}
 use Rattle.usb_session_calls.proofs.NameLemmas.{free-none, length-change_named}
 use Rattle.usb_session_calls.proofs.EndpointNameLemmas.{set-changes, freed-changes, change-changes}
-use Rattle.usb_session_calls.specs.Readers.{as_streamed}
 use Rattle.usb_session_calls.specs.Writers.{nothing_called, with_writer, writer_answer, without_writer, writer_inner_answer, with_transfers, closed_writer, close_writer_answer, writer_closed_at, writer_closed}
 use Rattle.usb_session_calls.specs.Writes.{writing_at, left_by_writer, called_as, flush_as, finish_as}
 use Rattle.usb_session_calls.specs.Answer.{answer_with, condition_answer, ok_answer, silent, if_open}
 use Rattle.usb_device_endpoint.specs.Closes.{after_close}
-use Rattle.usb_session.specs.Accounts.{TookFew}
 use Rattle.usb_session.specs.Served.{closed_under}
 use Rattle.usb_session.proofs.CallLeads.{Leads, leads-start, leads-send, leads-wait, leads-take, called-acts}
 use Rattle.usb_session.proofs.Does.{Acts, Changes, Quiet, Does, says_done, ends, moves, kept-change, own-changes, writer-changes, quiet-aside, quiet-same, named-does, closing-does, free-does, bar-does}
@@ -43,8 +40,8 @@ writer-does state w e size =
     named-does (named state.endpoints e) _ (λ h here.
     free-does (λ free.
     free-does (λ out.
-    let y : Writer = record { endpoint = as_streamed h; bare = bare_writer (fresh_writer (endpoint_state h) size); calls = nothing_called h.tickets } in
-    moves (Own e) (OfWriter w) h (as_streamed h) here (ap (option_map (λ (x : Writer). x.endpoint)) (free-none state.writers w free)) (record { key = refl; tickets = refl; taken = refl }) (λ was. refl) refl
+    let y : Writer = record { state = fresh_writer h.state size; taken = h.taken; calls = nothing_called (tickets_at h) } in
+    moves (Own e) (OfWriter w) h (endpoint_of_writer y) here (ap (option_map endpoint_of_writer) (free-none state.writers w free)) (record { key = refl; pending = refl; taken = refl }) (λ was. refl) refl
     (record {
       mid = record state { endpoints = freed state.endpoints e };
       gone = own-changes state state.host (freed state.endpoints e) e None (freed-changes state.endpoints e);
@@ -57,40 +54,41 @@ unfolding writer_inner_answer
 writer_inner-does state e w =
     named-does (named state.writers w) _ (λ x is.
     free-does (λ free.
-    moves (OfWriter w) (Own e) x.endpoint x.endpoint (ap (option_map (λ (y : Writer). y.endpoint)) is) (free-none state.endpoints e free) (record { key = refl; tickets = refl; taken = refl }) (λ was. was tt) refl
+    moves (OfWriter w) (Own e) (endpoint_of_writer x) (endpoint_of_writer x) (ap (option_map endpoint_of_writer) is) (free-none state.endpoints e free) (record { key = refl; pending = refl; taken = refl }) (λ was. was tt) refl
     (record {
       mid = record state { writers = freed state.writers w };
       gone = writer-changes state state.host (freed state.writers w) w None (freed-changes state.writers w);
-      put = own-changes (record state { writers = freed state.writers w }) state.host (set_name state.endpoints e x.endpoint) e (Some x.endpoint) (set-changes state.endpoints e x.endpoint free);
+      put = own-changes (record state { writers = freed state.writers w }) state.host (set_name state.endpoints e (endpoint_of_writer x)) e (Some (endpoint_of_writer x)) (set-changes state.endpoints e (endpoint_of_writer x) free);
     })
     (quiet-same (without_writer state e w x))))
 
 -- it is closed
-closed-changes : (state : State) (w : ℕ) (x : Writer) → Changes state (closed_writer state w x) (after_close host_calls state.host (endpoint_state x.endpoint)) (OfWriter w) None
-closed-changes state w x = writer-changes state (after_close host_calls state.host (endpoint_state x.endpoint)) (freed state.writers w) w None (freed-changes state.writers w)
+closed-changes : (state : State) (w : ℕ) (x : Writer) → Changes state (closed_writer state w x) (after_close host_calls state.host x.state.endpoint) (OfWriter w) None
+closed-changes state w x = writer-changes state (after_close host_calls state.host x.state.endpoint) (freed state.writers w) w None (freed-changes state.writers w)
 
-pub writer_closed-does : {few : Type 0} (state : State) (w : ℕ) (lines : EndpointName → List (List ℕ)) → Acts few (silent (writer_closed state w)) state (closed_under state lines (OfWriter w)) []
+pub writer_closed-does : (state : State) (w : ℕ) (lines : EndpointName → List (List ℕ)) → Acts (silent (writer_closed state w)) state (closed_under state lines (OfWriter w)) []
 unfolding writer_closed
 writer_closed-does state w lines =
-    closing-does state (OfWriter w) lines (named state.writers w) (λ (x : Writer). x.endpoint) (λ o. silent (writer_closed_at state w o)) (closed_writer state w) refl refl (quiet-same state) (λ x. refl)
+    closing-does state (OfWriter w) lines (named state.writers w) endpoint_of_writer (λ o. silent (writer_closed_at state w o)) (closed_writer state w) refl refl (quiet-same state) (λ x. refl)
     (λ x is. closed-changes state w x) (λ x. quiet-same (closed_writer state w x))
 
-pub close_writer-does : {few : Type 0} (state : State) (w : ℕ) (lines : EndpointName → List (List ℕ)) → Acts few (close_writer_answer state w) state (closed_under state lines (OfWriter w)) []
+pub close_writer-does : (state : State) (w : ℕ) (lines : EndpointName → List (List ℕ)) → Acts (close_writer_answer state w) state (closed_under state lines (OfWriter w)) []
 unfolding close_writer_answer
 close_writer-does state w lines =
-    closing-does state (OfWriter w) lines (named state.writers w) (λ (x : Writer). x.endpoint) (λ o. if_open o (λ x. ok_answer (closed_writer state w x)) (condition_answer state)) (closed_writer state w) refl refl (quiet-same state) (λ x. refl)
+    closing-does state (OfWriter w) lines (named state.writers w) endpoint_of_writer (λ o. if_open o (λ x. ok_answer (closed_writer state w x)) (condition_answer state)) (closed_writer state w) refl refl (quiet-same state) (λ x. refl)
     (λ x is. closed-changes state w x) (λ x. quiet-same (closed_writer state w x))
 
 -- a change of it that keeps its endpoint
-endpoint-kept : (f : Writer → Writer) (state : State) (w : ℕ) → ((x : Writer) → (f x).endpoint ≡ x.endpoint) → (e : EndpointName) → endpoint_under (record state { writers = change_named f state.writers w }) e ≡ endpoint_under state e
-endpoint-kept f state w same (Own e) = refl
-endpoint-kept f state w same (OfWriter n) = kept-change (λ (x : Writer). x.endpoint) f same state.writers w n
-endpoint-kept f state w same (OfReader n) = refl
+module _ (f : Writer → Writer) (state : State) (w : ℕ) (x : Writer) (at : named state.writers w ≡ Some x) (same : endpoint_of_writer (f x) ≡ endpoint_of_writer x) where
+  endpoint-kept : (e : EndpointName) → endpoint_under (record state { writers = change_named f state.writers w }) e ≡ endpoint_under state e
+  endpoint-kept (Own e) = refl
+  endpoint-kept (OfWriter n) = kept-change endpoint_of_writer f state.writers w n x at same
+  endpoint-kept (OfReader n) = refl
 
-kept-quiet : (f : Writer → Writer) (state : State) (w : ℕ) → ((x : Writer) → (f x).endpoint ≡ x.endpoint) → Quiet state (record state { writers = change_named f state.writers w })
-kept-quiet f state w same =
-    quiet-aside state (record state { writers = change_named f state.writers w }) refl refl (endpoint-kept f state w same)
-    (ap (λ n. record { own = length state.endpoints; readers = length state.readers; writers = n }) (length-change_named f state.writers w)) refl
+  kept-quiet : Quiet state (record state { writers = change_named f state.writers w })
+  kept-quiet =
+      quiet-aside state (record state { writers = change_named f state.writers w }) refl refl endpoint-kept
+      (ap (λ n. record { own = length state.endpoints; readers = length state.readers; writers = n }) (length-change_named f state.writers w)) refl
 
 -- what is kept by all that a call does is kept by one that leaves this
 abbrev KeptBy : Writing HostState → Writing HostState → Type 1
@@ -99,32 +97,31 @@ KeptBy old new = (P : Writing HostState → Type 0) → Keeps P → P old → P 
 called_as-does : {A : Type 0} (state : State) (w : ℕ) (x : Writer) (need : ℕ) (calls : List Call) (line : Result A WriteFault → List ℕ) (came : Answered A WriteFault (Writing HostState)) → named state.writers w ≡ Some x → ((r : Result A WriteFault) → says_done (line r) ≡ false) → KeptBy (writing_at state x) came.left
     → Does state (called_as state w x need calls line came)
 called_as-does state w x need calls line came is other keeps =
-    let few = TookFew state in
     let e = OfWriter w in
-    let h = x.endpoint in
-    let here = ap (option_map (λ (y : Writer). y.endpoint)) is in
+    let h = endpoint_of_writer x in
+    let here = ap (option_map endpoint_of_writer) is in
     let not_done = other came.answer in
     let a = answer_with (left_by_writer state w (option_map (with_calls calls (failures_of came.answer)) x.calls) came.left) (line came.answer) in
     bar-does {bars = bars_call (writing_at state x) need} {call = a} (λ no_.
-    called-acts state a e h came.left.bus came.left.writer.endpoint here not_done
-    (writer-changes state _ _ w _ (change-changes _ state.writers w x is)) (λ within.
-    keeps (λ v. Leads few a state e h v.bus v.writer.endpoint)
+    called-acts state a e h came.left.bus came.left.writer.endpoint tt refl here not_done
+    (writer-changes state _ _ w _ (change-changes _ state.writers w x is)) (
+    keeps (λ v. Leads a state e h v.bus v.writer.endpoint)
     (record {
       set = λ v buffer begun l. l;
-      submission = λ v b l. leads-send few a state e h tt here not_done v.bus v.writer.endpoint b l;
-      wait = λ v timeout front others was l. leads-wait few a state e h tt here not_done v.bus v.writer.endpoint front timeout l;
-      taking = λ v front others c was came l. leads-take few a state e h tt here not_done v.bus v.writer.endpoint front others was l;
+      submission = λ v b l. leads-send a state e h tt refl here not_done v.bus v.writer.endpoint b l;
+      wait = λ v timeout front others was l. leads-wait a state e h tt refl here not_done v.bus v.writer.endpoint front timeout l;
+      taking = λ v front others c was came l. leads-take a state e h tt refl here not_done v.bus v.writer.endpoint front others was l;
     })
-    (leads-start few a state e h tt here not_done (endpoint_state h) refl within)))
+    (leads-start a state e h tt refl here not_done x.state.endpoint refl)))
 
 -- a flush of what stands, and the end of a message
 flush_as-does : (state : State) (w : ℕ) (x : Writer) (line : Result (Unit {0}) WriteFault → List ℕ) (came : Answered (Unit {0}) WriteFault (Writing HostState)) → named state.writers w ≡ Some x → ((r : Result (Unit {0}) WriteFault) → says_done (line r) ≡ false) → KeptBy (writing_at state x) came.left
     → Does state (flush_as state w x line came)
-flush_as-does state w x = called_as-does state w x (flush_need (state_of_writer x)) (Flush ∷ [])
+flush_as-does state w x = called_as-does state w x (flush_need x.state) (Flush ∷ [])
 
 finish_as-does : (state : State) (w : ℕ) (x : Writer) (line : Result (Unit {0}) WriteFault → List ℕ) (came : Answered (Unit {0}) WriteFault (Writing HostState)) → named state.writers w ≡ Some x → ((r : Result (Unit {0}) WriteFault) → says_done (line r) ≡ false) → KeptBy (writing_at state x) came.left
     → Does state (finish_as state w x line came)
-finish_as-does state w x = called_as-does state w x (finish_need (state_of_writer x)) (Finish ∷ [])
+finish_as-does state w x = called_as-does state w x (finish_need x.state) (Finish ∷ [])
 
 -- none of their lines is that of a completion
 fault-other : (fault : WriteFault) → says_done (write_fault_line fault) ≡ false
@@ -148,7 +145,7 @@ polled-other line other (Err TimedOut) = refl
 -- each call
 writer_called-does : (state : State) (w : ℕ) (x : Writer) (call : WriterCall) → named state.writers w ≡ Some x → Does state (writer_called call state w x)
 writer_called-does state w x (Write bytes) is =
-    called_as-does state w x _ _ written_line (write_came host_calls x.bare.timeout bytes (writing_at state x)) is written-other (λ P keeps. write-keeps P keeps x.bare.timeout bytes (writing_at state x))
+    called_as-does state w x _ _ written_line (write_came host_calls x.state.timeout bytes (writing_at state x)) is written-other (λ P keeps. write-keeps P keeps x.state.timeout bytes (writing_at state x))
 writer_called-does state w x (PollWrite bytes) is =
     called_as-does state w x _ _ (poll_line written_line) (write_came host_calls 0 bytes (writing_at state x)) is (polled-other written_line written-other) (λ P keeps. write-keeps P keeps 0 bytes (writing_at state x))
 writer_called-does state w x Submit is =
@@ -156,17 +153,17 @@ writer_called-does state w x Submit is =
 writer_called-does state w x SubmitEnd is =
     finish_as-does state w x flushed_line (submitted_to (submit_end_came host_calls (writing_at state x))) is flushed-other (λ P keeps. submit_end-keeps P keeps (writing_at state x))
 writer_called-does state w x writers.Flush is =
-    flush_as-does state w x flushed_line (flush_came host_calls x.bare.timeout (writing_at state x)) is flushed-other (λ P keeps. flush-keeps P keeps x.bare.timeout (writing_at state x))
+    flush_as-does state w x flushed_line (flush_came host_calls x.state.timeout (writing_at state x)) is flushed-other (λ P keeps. flush-keeps P keeps x.state.timeout (writing_at state x))
 writer_called-does state w x PollFlush is =
     flush_as-does state w x (poll_line flushed_line) (flush_came host_calls 0 (writing_at state x)) is (polled-other flushed_line flushed-other) (λ P keeps. flush-keeps P keeps 0 (writing_at state x))
 writer_called-does state w x FlushEnd is =
-    finish_as-does state w x flushed_line (flush_end_came host_calls x.bare.timeout (writing_at state x)) is flushed-other (λ P keeps. flush_end-keeps P keeps x.bare.timeout (writing_at state x))
+    finish_as-does state w x flushed_line (flush_end_came host_calls x.state.timeout (writing_at state x)) is flushed-other (λ P keeps. flush_end-keeps P keeps x.state.timeout (writing_at state x))
 writer_called-does state w x PollFlushEnd is =
     called_as-does state w x _ _ (poll_line flushed_line) (poll_flush_end_came host_calls (writing_at state x)) is (polled-other flushed_line flushed-other) (λ P keeps. poll_flush_end-keeps P keeps (writing_at state x))
 writer_called-does state w x (SetNumTransfers n) is =
     let next = record state { writers = change_named (with_transfers n) state.writers w } in
-    bar-does {bars = bars_transfers n} {call = ok_answer next} (λ no_. ends refl (kept-quiet _ state w (λ y. refl)))
-writer_called-does state w x (SetWriteTimeout timeout) is = ends refl (kept-quiet _ state w (λ y. refl))
+    bar-does {bars = bars_transfers n} {call = ok_answer next} (λ no_. ends refl (kept-quiet _ state w x is refl))
+writer_called-does state w x (SetWriteTimeout timeout) is = ends refl (kept-quiet _ state w x is refl)
 
 pub on_writer-does : (state : State) (w : ℕ) (call : WriterCall) → Does state (on_writer state w call)
 unfolding on_writer
