@@ -1,5 +1,5 @@
 -- The calls of a writer that submit or take transfers. They are barred where the submissions that they may need are.
-use Rattle.std.specs.Prelude.{ℕ, List, [], ◌∷◌, Option, Result, if◌then◌else◌}
+use Rattle.std.specs.Prelude.{ℕ, List, [], ◌∷◌, ◌++◌, Option, Result, if◌then◌else◌}
 use Rattle.std.specs.Option.{option_map}
 use Rattle.usb_device_host.specs.HostState.{HostState}
 use Rattle.usb_io.specs.declared.fault.WriteFault.{WriteFault}
