@@ -6,7 +6,7 @@ use Rattle.usb_session_text.specs.Calls.{condition_line}
 use Rattle.usb_session_calls.specs.Names.{named, is_free}
 use Rattle.usb_io.specs.Readers.{ReaderState}
 use Rattle.usb_io.specs.Writers.{WriterState}
-use Rattle.usb_session_calls.specs.State.{State, Endpoint, Reader, Writer, endpoint_state, state_of_reader, state_of_writer}
+use Rattle.usb_session_calls.specs.State.{State, Endpoint, Reader, Writer, endpoint_of_reader, endpoint_of_writer}
 use Rattle.usb_session_calls.specs.EndpointNames.{EndpointName, endpoint_under}
 use Rattle.usb_session_calls.proofs.EndpointNameLemmas.{held-seen}
 use Rattle.usb_session_calls.specs.Answer.{Answer, answer_with, condition_answer, if_open}
@@ -49,22 +49,22 @@ answered-some s before after o x call otherwise some is = subst (λ p. Answered 
 
 -- the host is the state's
 pub host_is : (s : SessionState) (state : State) → Represents s state → s.host ≡ state.host
-host_is s state r = ap (λ (v : SessionState). v.host) r.is
+host_is s state r = ap (λ (v : SessionState). v.host) r
 
--- of an endpoint the session keeps the tickets that were not taken
-pub named_kept : (s : SessionState) (state : State) (e : ℕ) → Represents s state → named s.endpoints e ≡ option_map endpoint_state (named state.endpoints e)
-named_kept s state e r = ap (λ (v : SessionState). named v.endpoints e) r.is ∙ named-map endpoint_state state.endpoints e
+-- of an endpoint the session keeps what its calls see
+pub named_kept : (s : SessionState) (state : State) (e : ℕ) → Represents s state → named s.endpoints e ≡ option_map (λ (x : Endpoint). x.state) (named state.endpoints e)
+named_kept s state e r = ap (λ (v : SessionState). named v.endpoints e) r ∙ named-map (λ (x : Endpoint). x.state) state.endpoints e
 
 pub free_kept : (s : SessionState) (state : State) (e : ℕ) → Represents s state → is_free s.endpoints e ≡ is_free state.endpoints e
-free_kept s state e r = ap (λ (v : SessionState). is_free v.endpoints e) r.is ∙ is_free-map endpoint_state state.endpoints e
+free_kept s state e r = ap (λ (v : SessionState). is_free v.endpoints e) r ∙ is_free-map (λ (x : Endpoint). x.state) state.endpoints e
 
 -- the same of each endpoint that is open
-pub under_kept : (s : SessionState) (state : State) (e : EndpointName) → Represents s state → open_under s e ≡ option_map endpoint_state (endpoint_under state e)
+pub under_kept : (s : SessionState) (state : State) (e : EndpointName) → Represents s state → open_under s e ≡ option_map (λ (x : Endpoint). x.state) (endpoint_under state e)
 under_kept s state e r =
-    ap (λ (v : SessionState). open_under v e) r.is
-    ∙ held-seen endpoint_state state_of_reader state_of_writer (λ (x : Reader). x.endpoint) (λ (x : Writer). x.endpoint) (λ (x : ReaderState). x.endpoint) (λ (x : WriterState). x.endpoint) (λ x. refl) (λ x. refl) state.endpoints state.readers state.writers e
+    ap (λ (v : SessionState). open_under v e) r
+    ∙ held-seen (λ (x : Endpoint). x.state) (λ (x : Reader). x.state) (λ (x : Writer). x.state) endpoint_of_reader endpoint_of_writer (λ (x : ReaderState). x.endpoint) (λ (x : WriterState). x.endpoint) (λ x. refl) (λ x. refl) state.endpoints state.readers state.writers e
 
-none_by : (o : Option Endpoint) → option_map endpoint_state o ≡ None → o ≡ None
+none_by : (o : Option Endpoint) → option_map (λ (x : Endpoint). x.state) o ≡ None → o ≡ None
 none_by None is = refl
 none_by (Some h) is = absurd (cc)
 

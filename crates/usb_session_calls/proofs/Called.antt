@@ -19,7 +19,7 @@ use Rattle.usb_session_calls.specs.Names.{named, is_free, change_named, freed, s
 use Rattle.usb_io.specs.Readers.{ReaderState}
 use Rattle.usb_io.specs.Writers.{WriterState}
 use Rattle.usb_session_calls.specs.EndpointNames.{EndpointName, Own, OfReader, OfWriter, endpoint_under}
-use Rattle.usb_session_calls.specs.State.{State, Endpoint, Reader, Writer, endpoint_state, state_of_reader, state_of_writer}
+use Rattle.usb_session_calls.specs.State.{State, Endpoint, Reader, Writer}
 use Rattle.usb_session_calls.specs.SessionState.{SessionState, IsSound, open_under}
 use Rattle.usb_session_calls.specs.Relation.{Represents, session_of}
 use Rattle.usb_session_calls.proofs.Answering.{under_kept}
@@ -179,57 +179,34 @@ sound-host s now sound keeps stands none =
 pub record OpenAt (state : State) (e : EndpointName) (x : EndpointState) : Type 0 where
   pub entry : Endpoint
   pub is : endpoint_under state e ≡ Some entry
-  pub same : endpoint_state entry ≡ x
-  pub few : entry.taken ≤ length entry.tickets
+  pub same : entry.state ≡ x
 
-open_by : (state : State) (e : EndpointName) (x : EndpointState) (o : Option Endpoint) → endpoint_under state e ≡ o → option_map endpoint_state o ≡ Some x → ((h : Endpoint) → endpoint_under state e ≡ Some h → h.taken ≤ length h.tickets) → OpenAt state e x
-open_by state e x None at is few = absurd (none-some x is)
-open_by state e x (Some h) at is few = record { entry = h; is = at; same = same_Some (endpoint_state h) x is; few = few h at }
+open_by : (state : State) (e : EndpointName) (x : EndpointState) (o : Option Endpoint) → endpoint_under state e ≡ o → option_map (λ (h : Endpoint). h.state) o ≡ Some x → OpenAt state e x
+open_by state e x None at is = absurd (none-some x is)
+open_by state e x (Some h) at is = record { entry = h; is = at; same = same_Some h.state x is }
 
 pub open_at : (s : SessionState) (state : State) (e : EndpointName) (x : EndpointState) → Represents s state → open_under s e ≡ Some x → OpenAt state e x
-open_at s state e x r is = open_by state e x (endpoint_under state e) refl (sym (under_kept s state e r) ∙ is) (r.few e)
+open_at s state e x r is = open_by state e x (endpoint_under state e) refl (sym (under_kept s state e r) ∙ is)
 
 -- a state with another host, and other endpoints, readers and writers
 abbrev pub state_with : State → HostState → List (Option Endpoint) → List (Option Reader) → List (Option Writer) → State
 state_with state host endpoints readers writers = record state { host = host; endpoints = endpoints; readers = readers; writers = writers }
 
--- no more tickets of an endpoint were taken than it has
-abbrev pub Few : (EndpointName → Option Endpoint) → Type 0
-Few opened = (e : EndpointName) (h : Endpoint) → opened e ≡ Some h → h.taken ≤ length h.tickets
-
-pub few-put : (old new : EndpointName → Option Endpoint) (e : EndpointName) (h : Endpoint) → Changed old new e (Some h) → h.taken ≤ length h.tickets → Few old → Few new
-few-put old new e h put now few d g is =
-    elim (changed-back old new e d g h put is) [
-      | inl here ↦ subst (λ (x : Endpoint). x.taken ≤ length x.tickets) (sym here.1) now
-      | inr there ↦ few d g there.1
-    ]
-
-pub few-gone : (old new : EndpointName → Option Endpoint) (e : EndpointName) → Changed old new e None → Few old → Few new
-few-gone old new e gone few d g is = few d g (changed-gone old new e d g gone is).1
-
 -- a session stands for a state, where each list is what it keeps of the state's
 pub represents-open : (s : SessionState) (state : State) (now : HostState) (es : List (Option EndpointState)) (rs : List (Option ReaderState)) (ws : List (Option WriterState)) (endpoints : List (Option Endpoint)) (readers : List (Option Reader)) (writers : List (Option Writer)) → Represents s state
-    → es ≡ map (option_map endpoint_state) endpoints → rs ≡ map (option_map state_of_reader) readers → ws ≡ map (option_map state_of_writer) writers → Few (endpoint_under (state_with state now endpoints readers writers))
+    → es ≡ map (option_map (λ (x : Endpoint). x.state)) endpoints → rs ≡ map (option_map (λ (x : Reader). x.state)) readers → ws ≡ map (option_map (λ (x : Writer). x.state)) writers
     → Represents (with_open s now es rs ws) (state_with state now endpoints readers writers)
-represents-open s state now es rs ws endpoints readers writers r kept_es kept_rs kept_ws few =
-    record {
-      is =
-          ap (λ (v : SessionState). with_open v now es rs ws) r.is
-          ∙ ap (λ (l : List (Option EndpointState)). with_open (session_of state) now l rs ws) kept_es
-          ∙ ap (λ (l : List (Option ReaderState)). with_open (session_of state) now (map (option_map endpoint_state) endpoints) l ws) kept_rs
-          ∙ ap (λ (l : List (Option WriterState)). with_open (session_of state) now (map (option_map endpoint_state) endpoints) (map (option_map state_of_reader) readers) l) kept_ws;
-      few = few;
-    }
+represents-open s state now es rs ws endpoints readers writers r kept_es kept_rs kept_ws = rw (r, kept_es, kept_rs, kept_ws) refl
 
 -- the lists of a session are what it keeps of the state's
-pub endpoints_kept : (s : SessionState) (state : State) → Represents s state → s.endpoints ≡ map (option_map endpoint_state) state.endpoints
-endpoints_kept s state r = ap (λ (v : SessionState). v.endpoints) r.is
+pub endpoints_kept : (s : SessionState) (state : State) → Represents s state → s.endpoints ≡ map (option_map (λ (x : Endpoint). x.state)) state.endpoints
+endpoints_kept s state r = ap (λ (v : SessionState). v.endpoints) r
 
-pub readers_kept : (s : SessionState) (state : State) → Represents s state → s.readers ≡ map (option_map state_of_reader) state.readers
-readers_kept s state r = ap (λ (v : SessionState). v.readers) r.is
+pub readers_kept : (s : SessionState) (state : State) → Represents s state → s.readers ≡ map (option_map (λ (x : Reader). x.state)) state.readers
+readers_kept s state r = ap (λ (v : SessionState). v.readers) r
 
-pub writers_kept : (s : SessionState) (state : State) → Represents s state → s.writers ≡ map (option_map state_of_writer) state.writers
-writers_kept s state r = ap (λ (v : SessionState). v.writers) r.is
+pub writers_kept : (s : SessionState) (state : State) → Represents s state → s.writers ≡ map (option_map (λ (x : Writer). x.state)) state.writers
+writers_kept s state r = ap (λ (v : SessionState). v.writers) r
 
 -- what is open under a name was changed, seen through a function
 pub change-kept : {X Y : Type 0} (v : X → Y) (f : X → X) (xs : List (Option X)) (ys : List (Option Y)) (n : ℕ) (x : X) (y : Y) → ys ≡ map (option_map v) xs → named xs n ≡ Some x → v (f x) ≡ y → change_named (λ z. y) ys n ≡ map (option_map v) (change_named f xs n)
@@ -244,64 +221,49 @@ pub set-kept : {X Y : Type 0} (v : X → Y) (xs : List (Option X)) (ys : List (O
 set-kept v xs ys n x kept = ap (λ l. set_name l n (v x)) kept ∙ sym (map-set v xs n x)
 
 -- an endpoint was called and put back
-pub represents-put : (s : SessionState) (state : State) (now : HostState) (f : Endpoint → Endpoint) (e : ℕ) (h : Endpoint) (y : EndpointState) → Represents s state → named state.endpoints e ≡ Some h → endpoint_state (f h) ≡ y → (f h).taken ≤ length (f h).tickets
+pub represents-put : (s : SessionState) (state : State) (now : HostState) (f : Endpoint → Endpoint) (e : ℕ) (h : Endpoint) (y : EndpointState) → Represents s state → named state.endpoints e ≡ Some h → (f h).state ≡ y
     → Represents (record s { host = now; endpoints = change_named (λ z. y) s.endpoints e }) (record state { host = now; endpoints = change_named f state.endpoints e })
-represents-put s state now f e h y r was same few =
+represents-put s state now f e h y r was same =
     represents-open s state now (change_named (λ z. y) s.endpoints e) s.readers s.writers (change_named f state.endpoints e) state.readers state.writers r
-    (change-kept endpoint_state f state.endpoints s.endpoints e h y (endpoints_kept s state r) was same) (readers_kept s state r) (writers_kept s state r)
-    (few-put (endpoint_under state) (endpoint_under (state_with state now (change_named f state.endpoints e) state.readers state.writers)) (Own e) (f h)
-    (own-changed (λ (x : Reader). x.endpoint) (λ (x : Writer). x.endpoint) state.endpoints state.readers state.writers (change_named f state.endpoints e) e (Some (f h)) (change-changes f state.endpoints e h was)) few r.few)
+    (change-kept (λ (x : Endpoint). x.state) f state.endpoints s.endpoints e h y (endpoints_kept s state r) was same) (readers_kept s state r) (writers_kept s state r)
 
--- or opened, under a name that is free
-pub represents-set : (s : SessionState) (state : State) (now : HostState) (e : ℕ) (h : Endpoint) → Represents s state → is_free state.endpoints e ≡ true → h.taken ≤ length h.tickets
-    → Represents (record s { host = now; endpoints = set_name s.endpoints e (endpoint_state h) }) (record state { host = now; endpoints = set_name state.endpoints e h })
-represents-set s state now e h r free few =
-    represents-open s state now (set_name s.endpoints e (endpoint_state h)) s.readers s.writers (set_name state.endpoints e h) state.readers state.writers r
-    (set-kept endpoint_state state.endpoints s.endpoints e h (endpoints_kept s state r)) (readers_kept s state r) (writers_kept s state r)
-    (few-put (endpoint_under state) (endpoint_under (state_with state now (set_name state.endpoints e h) state.readers state.writers)) (Own e) h
-    (own-changed (λ (x : Reader). x.endpoint) (λ (x : Writer). x.endpoint) state.endpoints state.readers state.writers (set_name state.endpoints e h) e (Some h) (set-changes state.endpoints e h free)) few r.few)
+-- or opened
+pub represents-set : (s : SessionState) (state : State) (now : HostState) (e : ℕ) (h : Endpoint) → Represents s state
+    → Represents (record s { host = now; endpoints = set_name s.endpoints e h.state }) (record state { host = now; endpoints = set_name state.endpoints e h })
+represents-set s state now e h r =
+    represents-open s state now (set_name s.endpoints e h.state) s.readers s.writers (set_name state.endpoints e h) state.readers state.writers r
+    (set-kept (λ (x : Endpoint). x.state) state.endpoints s.endpoints e h (endpoints_kept s state r)) (readers_kept s state r) (writers_kept s state r)
 
 -- a reader was called and put back
-pub represents-reader : (s : SessionState) (state : State) (now : HostState) (f : Reader → Reader) (n : ℕ) (x : Reader) (y : ReaderState) → Represents s state → named state.readers n ≡ Some x → state_of_reader (f x) ≡ y → (f x).endpoint.taken ≤ length (f x).endpoint.tickets
+pub represents-reader : (s : SessionState) (state : State) (now : HostState) (f : Reader → Reader) (n : ℕ) (x : Reader) (y : ReaderState) → Represents s state → named state.readers n ≡ Some x → (f x).state ≡ y
     → Represents (record s { host = now; readers = change_named (λ z. y) s.readers n }) (record state { host = now; readers = change_named f state.readers n })
-represents-reader s state now f n x y r was same few =
+represents-reader s state now f n x y r was same =
     represents-open s state now s.endpoints (change_named (λ z. y) s.readers n) s.writers state.endpoints (change_named f state.readers n) state.writers r
-    (endpoints_kept s state r) (change-kept state_of_reader f state.readers s.readers n x y (readers_kept s state r) was same) (writers_kept s state r)
-    (few-put (endpoint_under state) (endpoint_under (state_with state now state.endpoints (change_named f state.readers n) state.writers)) (OfReader n) (f x).endpoint
-    (reader-changed (λ (z : Reader). z.endpoint) (λ (z : Writer). z.endpoint) state.endpoints state.readers state.writers (change_named f state.readers n) n (Some (f x)) (change-changes f state.readers n x was)) few r.few)
+    (endpoints_kept s state r) (change-kept (λ (x : Reader). x.state) f state.readers s.readers n x y (readers_kept s state r) was same) (writers_kept s state r)
 
 -- a writer was called and put back
-pub represents-writer : (s : SessionState) (state : State) (now : HostState) (f : Writer → Writer) (n : ℕ) (x : Writer) (y : WriterState) → Represents s state → named state.writers n ≡ Some x → state_of_writer (f x) ≡ y → (f x).endpoint.taken ≤ length (f x).endpoint.tickets
+pub represents-writer : (s : SessionState) (state : State) (now : HostState) (f : Writer → Writer) (n : ℕ) (x : Writer) (y : WriterState) → Represents s state → named state.writers n ≡ Some x → (f x).state ≡ y
     → Represents (record s { host = now; writers = change_named (λ z. y) s.writers n }) (record state { host = now; writers = change_named f state.writers n })
-represents-writer s state now f n x y r was same few =
+represents-writer s state now f n x y r was same =
     represents-open s state now s.endpoints s.readers (change_named (λ z. y) s.writers n) state.endpoints state.readers (change_named f state.writers n) r
-    (endpoints_kept s state r) (readers_kept s state r) (change-kept state_of_writer f state.writers s.writers n x y (writers_kept s state r) was same)
-    (few-put (endpoint_under state) (endpoint_under (state_with state now state.endpoints state.readers (change_named f state.writers n))) (OfWriter n) (f x).endpoint
-    (writer-changed (λ (z : Reader). z.endpoint) (λ (z : Writer). z.endpoint) state.endpoints state.readers state.writers (change_named f state.writers n) n (Some (f x)) (change-changes f state.writers n x was)) few r.few)
+    (endpoints_kept s state r) (readers_kept s state r) (change-kept (λ (x : Writer). x.state) f state.writers s.writers n x y (writers_kept s state r) was same)
 
 -- an endpoint was closed, or a reader, or a writer
 pub represents-freed : (s : SessionState) (state : State) (now : HostState) (e : ℕ) → Represents s state → Represents (record s { host = now; endpoints = freed s.endpoints e }) (record state { host = now; endpoints = freed state.endpoints e })
 represents-freed s state now e r =
     represents-open s state now (freed s.endpoints e) s.readers s.writers (freed state.endpoints e) state.readers state.writers r
-    (freed-kept endpoint_state state.endpoints s.endpoints e (endpoints_kept s state r)) (readers_kept s state r) (writers_kept s state r)
-    (few-gone (endpoint_under state) (endpoint_under (state_with state now (freed state.endpoints e) state.readers state.writers)) (Own e)
-    (own-changed (λ (x : Reader). x.endpoint) (λ (x : Writer). x.endpoint) state.endpoints state.readers state.writers (freed state.endpoints e) e None (freed-changes state.endpoints e)) r.few)
+    (freed-kept (λ (x : Endpoint). x.state) state.endpoints s.endpoints e (endpoints_kept s state r)) (readers_kept s state r) (writers_kept s state r)
 
 pub represents-reader_freed : (s : SessionState) (state : State) (now : HostState) (n : ℕ) → Represents s state → Represents (record s { host = now; readers = freed s.readers n }) (record state { host = now; readers = freed state.readers n })
 represents-reader_freed s state now n r =
     represents-open s state now s.endpoints (freed s.readers n) s.writers state.endpoints (freed state.readers n) state.writers r
-    (endpoints_kept s state r) (freed-kept state_of_reader state.readers s.readers n (readers_kept s state r)) (writers_kept s state r)
-    (few-gone (endpoint_under state) (endpoint_under (state_with state now state.endpoints (freed state.readers n) state.writers)) (OfReader n)
-    (reader-changed (λ (x : Reader). x.endpoint) (λ (x : Writer). x.endpoint) state.endpoints state.readers state.writers (freed state.readers n) n None (freed-changes state.readers n)) r.few)
+    (endpoints_kept s state r) (freed-kept (λ (x : Reader). x.state) state.readers s.readers n (readers_kept s state r)) (writers_kept s state r)
 
 pub represents-writer_freed : (s : SessionState) (state : State) (now : HostState) (n : ℕ) → Represents s state → Represents (record s { host = now; writers = freed s.writers n }) (record state { host = now; writers = freed state.writers n })
 represents-writer_freed s state now n r =
     represents-open s state now s.endpoints s.readers (freed s.writers n) state.endpoints state.readers (freed state.writers n) r
-    (endpoints_kept s state r) (readers_kept s state r) (freed-kept state_of_writer state.writers s.writers n (writers_kept s state r))
-    (few-gone (endpoint_under state) (endpoint_under (state_with state now state.endpoints state.readers (freed state.writers n))) (OfWriter n)
-    (writer-changed (λ (x : Reader). x.endpoint) (λ (x : Writer). x.endpoint) state.endpoints state.readers state.writers (freed state.writers n) n None (freed-changes state.writers n)) r.few)
+    (endpoints_kept s state r) (readers_kept s state r) (freed-kept (λ (x : Writer). x.state) state.writers s.writers n (writers_kept s state r))
 
 -- only the host went on
 pub represents-host : (s : SessionState) (state : State) (now : HostState) → Represents s state → Represents (record s { host = now }) (record state { host = now })
-represents-host s state now r =
-    record { is = ap (λ (v : SessionState). record v { host = now }) r.is; few = r.few }
+represents-host s state now r = ap (λ (v : SessionState). record v { host = now }) r

@@ -176,7 +176,7 @@ number-of state (Device d) = number-by state.host.devices (named state.devices d
 number-of state (Interface i) = claimed-by state.host.interfaces (named state.interfaces i)
 
 pub number-is : (s : SessionState) (state : State) (target : ControlTarget) → Represents s state → device_of_target state target ≡ number_of_target s.host s.devices s.interfaces target
-number-is s state target r = number-of state target ∙ ap (λ (v : SessionState). number_of_target v.host v.devices v.interfaces target) (sym r.is)
+number-is s state target r = number-of state target ∙ ap (λ (v : SessionState). number_of_target v.host v.devices v.interfaces target) (sym r)
 
 -- the state behind a call: it may be barred
 control-made : (s : SessionState) (state : State) (now made : HostState) (before text line : List ℕ) (b : Bool) → Represents s state → now ≡ cond b s.host made → text ≡ before ++ cond b condition_line line → Answered (record s { host = now }) before text (cond b (condition_answer state) (answer_with (with_host state made) line))

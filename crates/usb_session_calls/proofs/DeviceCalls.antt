@@ -24,13 +24,13 @@ use Rattle.usb_session_calls.proofs.DeviceHosts.{KeepsHandles, KeepsAside, handl
 -- what is open under a name of a device
 pub device-none : (s : SessionState) (state : State) (d : ℕ) → Represents s state → named s.devices d ≡ None → device_at state d ≡ None
 device-none s state d r none =
-    let here : named state.devices d ≡ None = ap (λ (v : SessionState). named v.devices d) (sym r.is) ∙ none in
+    let here : named state.devices d ≡ None = ap (λ (v : SessionState). named v.devices d) (sym r) ∙ none in
     rw here refl
 
 pub device-some : (s : SessionState) (state : State) (d key : ℕ) (o : OpenDevice) → Represents s state → named s.devices d ≡ Some key → value_at s.host.devices key ≡ Some o → device_at state d ≡ Some (device_with key o)
 device-some s state d key o r at there =
-    let here : named state.devices d ≡ Some key = ap (λ (v : SessionState). named v.devices d) (sym r.is) ∙ at in
-    let device : value_at state.host.devices key ≡ Some o = ap (λ (v : SessionState). value_at v.host.devices key) (sym r.is) ∙ there in
+    let here : named state.devices d ≡ Some key = ap (λ (v : SessionState). named v.devices d) (sym r) ∙ at in
+    let device : value_at state.host.devices key ≡ Some o = ap (λ (v : SessionState). value_at v.host.devices key) (sym r) ∙ there in
     rw (here, device) refl
 
 -- what handles stand on is as it was

@@ -26,7 +26,7 @@ use Rattle.usb_device.proofs.StandLemmas.{StandsInterface-same}
 use Rattle.usb_device_host.proofs.InterfaceFrames.{asked-is, asked-counts}
 use Rattle.usb_device.proofs.FreshKeys.{endpoint-within}
 use Rattle.usb_session_calls.specs.Names.{named, is_free, set_name}
-use Rattle.usb_session_calls.specs.State.{State, endpoint_state, with_host}
+use Rattle.usb_session_calls.specs.State.{State, Endpoint, with_host}
 use Rattle.usb_session_calls.specs.OpenAt.{InterfaceAt}
 use Rattle.usb_session_calls.specs.Endpoints.{new_endpoint, endpoint_as, endpoint_answer}
 use Rattle.usb_session_calls.specs.EndpointNames.{EndpointName, Own}
@@ -163,18 +163,18 @@ endpoint-sound s now after e i address y c sound is key small stands others free
     }
 
 -- the state in which it is open
-open-as : (state : State) (host now : HostState) (after : List (Option EndpointState)) (e address maximum : ℕ) (kind : TransferType) (x : InterfaceAt) (y : EndpointState) (t : Result ℕ ErrorState) → Represents (session_of state) state → is_free (session_of state).endpoints e ≡ true → t ≡ Ok maximum → y ≡ fresh_endpoint x.claimed address kind maximum (length host.endpoints) → now ≡ with_endpoint host x.handle.key address → after ≡ set_name (session_of state).endpoints e y → Gives (record (session_of state) { host = now; endpoints = after }) ok_line (endpoint_as (with_host state host) e address kind x t)
-open-as state host now after e address maximum kind x y (Err error) r free tried fresh is put = absurd (cc)
-open-as state host now after e address maximum kind x y (Ok m) r free tried fresh is put =
+open-as : (state : State) (host now : HostState) (after : List (Option EndpointState)) (e address maximum : ℕ) (kind : TransferType) (x : InterfaceAt) (y : EndpointState) (t : Result ℕ ErrorState) → t ≡ Ok maximum → y ≡ fresh_endpoint x.claimed address kind maximum (length host.endpoints) → now ≡ with_endpoint host x.handle.key address → after ≡ set_name (session_of state).endpoints e y → Gives (record (session_of state) { host = now; endpoints = after }) ok_line (endpoint_as (with_host state host) e address kind x t)
+open-as state host now after e address maximum kind x y (Err error) tried fresh is put = absurd (cc)
+open-as state host now after e address maximum kind x y (Ok m) tried fresh is put =
     let same : maximum ≡ m = cc in
     let z = new_endpoint host x.claimed.device address kind m in
-    let names : after ≡ set_name (session_of state).endpoints e (endpoint_state z) = put ∙ ap (set_name (session_of state).endpoints e) (fresh ∙ ap (λ (n : ℕ). fresh_endpoint x.claimed address kind n (length host.endpoints)) same) in
+    let names : after ≡ set_name (session_of state).endpoints e z.state = put ∙ ap (set_name (session_of state).endpoints e) (fresh ∙ ap (λ (n : ℕ). fresh_endpoint x.claimed address kind n (length host.endpoints)) same) in
     let now_is = with_endpoint host x.handle.key address in
     record {
       state =
           subst (λ (g : HostState). Represents (record (session_of state) { host = g; endpoints = after }) (record state { host = now_is; endpoints = set_name state.endpoints e z })) (sym is)
           (subst (λ (l : List (Option EndpointState)). Represents (record (session_of state) { host = now_is; endpoints = l }) (record state { host = now_is; endpoints = set_name state.endpoints e z })) (sym names)
-          (represents-set (session_of state) state now_is e z r (sym (is_free-map endpoint_state state.endpoints e) ∙ free) (omega arith)));
+          (represents-set (session_of state) state now_is e z refl));
       same = refl;
     }
 
@@ -186,53 +186,53 @@ EndpointGives state e i address kind direction maximum f c y now after v =
 asked-endpoints : (h : HostState) (key : ℕ) → h.endpoints ≡ (host_asked h key).endpoints
 asked-endpoints h key = sym (ap (λ (g : HostState). g.endpoints) (asked-is h key))
 
-endpoint-of : (state : State) (now : HostState) (after : List (Option EndpointState)) (e i address maximum : ℕ) (kind : TransferType) (direction : Direction) (f : InterfaceState) (c : ClaimedInterface) (y : EndpointState) → Represents (session_of state) state → EndpointGives state e i address kind direction maximum f c y now after (session_of state)
+endpoint-of : (state : State) (now : HostState) (after : List (Option EndpointState)) (e i address maximum : ℕ) (kind : TransferType) (direction : Direction) (f : InterfaceState) (c : ClaimedInterface) (y : EndpointState) → EndpointGives state e i address kind direction maximum f c y now after (session_of state)
 unfolding endpoint_answer
-endpoint-of state now after e i address maximum kind direction f c y r at there free tried fresh is put =
-    let free_there : is_free state.endpoints e ≡ true = sym (is_free-map endpoint_state state.endpoints e) ∙ free in
+endpoint-of state now after e i address maximum kind direction f c y at there free tried fresh is put =
+    let free_there : is_free state.endpoints e ≡ true = sym (is_free-map (λ (x : Endpoint). x.state) state.endpoints e) ∙ free in
     rw (at, there, free_there)
-    (open-as state (host_asked state.host c.opened) now after e address maximum kind (record { handle = f; claimed = c }) y (host_tries (host_asked state.host c.opened) f.key c address kind direction) r free tried
+    (open-as state (host_asked state.host c.opened) now after e address maximum kind (record { handle = f; claimed = c }) y (host_tries (host_asked state.host c.opened) f.key c address kind direction) tried
     (fresh ∙ ap (λ (l : List (Option HostEndpoint)). fresh_endpoint c address kind maximum (length l)) (asked-endpoints state.host c.opened)) is put)
 
 pub endpoint-gives : (s : SessionState) (state : State) (now : HostState) (after : List (Option EndpointState)) (e i address maximum : ℕ) (kind : TransferType) (direction : Direction) (f : InterfaceState) (c : ClaimedInterface) (y : EndpointState) → Represents s state → EndpointGives state e i address kind direction maximum f c y now after s
 endpoint-gives s state now after e i address maximum kind direction f c y r =
-    subst (EndpointGives state e i address kind direction maximum f c y now after) (sym r.is) (endpoint-of state now after e i address maximum kind direction f c y (record { is = refl; few = r.few }))
+    subst (EndpointGives state e i address kind direction maximum f c y now after) (sym r) (endpoint-of state now after e i address maximum kind direction f c y)
 
 -- or that in which it is refused: the kernel was asked all the same
-refused-as : (state : State) (host now : HostState) (e address : ℕ) (kind : TransferType) (error : ErrorState) (x : InterfaceAt) (t : Result ℕ ErrorState) → Represents (session_of state) state → t ≡ Err error → now ≡ host → Gives (record (session_of state) { host = now }) (error_line error) (endpoint_as (with_host state host) e address kind x t)
-refused-as state host now e address kind error x (Err other) r tried is =
+refused-as : (state : State) (host now : HostState) (e address : ℕ) (kind : TransferType) (error : ErrorState) (x : InterfaceAt) (t : Result ℕ ErrorState) → t ≡ Err error → now ≡ host → Gives (record (session_of state) { host = now }) (error_line error) (endpoint_as (with_host state host) e address kind x t)
+refused-as state host now e address kind error x (Err other) tried is =
     record {
-      state = subst (λ (g : HostState). Represents (record (session_of state) { host = now }) (with_host state g)) is (represents-host (session_of state) state now r);
+      state = subst (λ (g : HostState). Represents (record (session_of state) { host = now }) (with_host state g)) is (represents-host (session_of state) state now refl);
       same = let same : other ≡ error = cc in ap error_line same;
     }
-refused-as state host now e address kind error x (Ok m) r tried is = absurd (cc)
+refused-as state host now e address kind error x (Ok m) tried is = absurd (cc)
 
 abbrev EndpointRefused : State → ℕ → ℕ → ℕ → TransferType → Direction → ErrorState → InterfaceState → ClaimedInterface → HostState → SessionState → Type 0
 EndpointRefused state e i address kind direction error f c now v =
     named v.interfaces i ≡ Some f → value_at v.host.interfaces f.key ≡ Some c → is_free v.endpoints e ≡ true → host_tries (host_asked v.host c.opened) f.key c address kind direction ≡ Err error → now ≡ host_asked v.host c.opened → Gives (record v { host = now }) (error_line error) (endpoint_answer state e i address kind direction)
 
-refused-of : (state : State) (now : HostState) (e i address : ℕ) (kind : TransferType) (direction : Direction) (error : ErrorState) (f : InterfaceState) (c : ClaimedInterface) → Represents (session_of state) state → EndpointRefused state e i address kind direction error f c now (session_of state)
+refused-of : (state : State) (now : HostState) (e i address : ℕ) (kind : TransferType) (direction : Direction) (error : ErrorState) (f : InterfaceState) (c : ClaimedInterface) → EndpointRefused state e i address kind direction error f c now (session_of state)
 unfolding endpoint_answer
-refused-of state now e i address kind direction error f c r at there free tried is =
-    let free_there : is_free state.endpoints e ≡ true = sym (is_free-map endpoint_state state.endpoints e) ∙ free in
+refused-of state now e i address kind direction error f c at there free tried is =
+    let free_there : is_free state.endpoints e ≡ true = sym (is_free-map (λ (x : Endpoint). x.state) state.endpoints e) ∙ free in
     rw (at, there, free_there)
-    (refused-as state (host_asked state.host c.opened) now e address kind error (record { handle = f; claimed = c }) (host_tries (host_asked state.host c.opened) f.key c address kind direction) r tried is)
+    (refused-as state (host_asked state.host c.opened) now e address kind error (record { handle = f; claimed = c }) (host_tries (host_asked state.host c.opened) f.key c address kind direction) tried is)
 
 pub endpoint-refused : (s : SessionState) (state : State) (now : HostState) (e i address : ℕ) (kind : TransferType) (direction : Direction) (error : ErrorState) (f : InterfaceState) (c : ClaimedInterface) → Represents s state → EndpointRefused state e i address kind direction error f c now s
 endpoint-refused s state now e i address kind direction error f c r =
-    subst (EndpointRefused state e i address kind direction error f c now) (sym r.is) (refused-of state now e i address kind direction error f c (record { is = refl; few = r.few }))
+    subst (EndpointRefused state e i address kind direction error f c now) (sym r) (refused-of state now e i address kind direction error f c)
 
 -- or that in which it is barred
 pub endpoint-none : (s : SessionState) (state : State) (e i address : ℕ) (kind : TransferType) (direction : Direction) → named s.interfaces i ≡ None → Represents s state → Gives s condition_line (endpoint_answer state e i address kind direction)
 unfolding endpoint_answer
 endpoint-none s state e i address kind direction none r =
-    let here : named state.interfaces i ≡ None = ap (λ (v : SessionState). named v.interfaces i) (sym r.is) ∙ none in
+    let here : named state.interfaces i ≡ None = ap (λ (v : SessionState). named v.interfaces i) (sym r) ∙ none in
     rw here (barred-gives s state r)
 
 pub endpoint-used : (s : SessionState) (state : State) (e i address : ℕ) (kind : TransferType) (direction : Direction) (f : InterfaceState) (c : ClaimedInterface) → named s.interfaces i ≡ Some f → value_at s.host.interfaces f.key ≡ Some c → is_free s.endpoints e ≡ false → Represents s state → Gives s condition_line (endpoint_answer state e i address kind direction)
 unfolding endpoint_answer
 endpoint-used s state e i address kind direction f c at there used r =
-    let here : named state.interfaces i ≡ Some f = ap (λ (v : SessionState). named v.interfaces i) (sym r.is) ∙ at in
-    let interface : value_at state.host.interfaces f.key ≡ Some c = ap (λ (v : SessionState). value_at v.host.interfaces f.key) (sym r.is) ∙ there in
+    let here : named state.interfaces i ≡ Some f = ap (λ (v : SessionState). named v.interfaces i) (sym r) ∙ at in
+    let interface : value_at state.host.interfaces f.key ≡ Some c = ap (λ (v : SessionState). value_at v.host.interfaces f.key) (sym r) ∙ there in
     let taken : is_free state.endpoints e ≡ false = sym (free_kept s state e r) ∙ used in
     rw (here, interface, taken) (barred-gives s state r)

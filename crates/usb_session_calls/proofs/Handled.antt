@@ -172,10 +172,6 @@ sound-set s now k setting c sound at is =
 -- a state with another host and other names of interfaces
 pub represents-handled : (s : SessionState) (state : State) (now host : HostState) (after names : List (Option InterfaceState)) → Represents s state → now ≡ host → after ≡ names → Represents (record s { host = now; interfaces = after }) (record state { host = host; interfaces = names })
 represents-handled s state now host after names r is put =
-    record {
-      is =
-          ap (λ (h : HostState). record s { host = h; interfaces = after }) is
-          ∙ ap (λ (l : List (Option InterfaceState)). record s { host = host; interfaces = l }) put
-          ∙ ap (λ (v : SessionState). record v { host = host; interfaces = names }) r.is;
-      few = r.few;
-    }
+    ap (λ (h : HostState). record s { host = h; interfaces = after }) is
+    ∙ ap (λ (l : List (Option InterfaceState)). record s { host = host; interfaces = l }) put
+    ∙ ap (λ (v : SessionState). record v { host = host; interfaces = names }) r

@@ -23,14 +23,14 @@ use Rattle.usb_session_calls.proofs.Handled.{represents-handled}
 
 -- what a session has open under a name is open in the state
 interface_is : (s : SessionState) (state : State) (i : ℕ) (o : Option InterfaceState) → Represents s state → named s.interfaces i ≡ o → named state.interfaces i ≡ o
-interface_is s state i o r at = ap (λ (v : SessionState). named v.interfaces i) (sym r.is) ∙ at
+interface_is s state i o r at = ap (λ (v : SessionState). named v.interfaces i) (sym r) ∙ at
 
 pub interface-none : (s : SessionState) (state : State) (i : ℕ) → Represents s state → named s.interfaces i ≡ None → interface_at state i ≡ None
 interface-none s state i r none = rw (interface_is s state i None r none) refl
 
 pub interface-some : (s : SessionState) (state : State) (i : ℕ) (f : InterfaceState) (c : ClaimedInterface) → Represents s state → named s.interfaces i ≡ Some f → value_at s.host.interfaces f.key ≡ Some c → interface_at state i ≡ Some (record { handle = f; claimed = c })
 interface-some s state i f c r at there =
-    let interface : value_at state.host.interfaces f.key ≡ Some c = ap (λ (v : SessionState). value_at v.host.interfaces f.key) (sym r.is) ∙ there in
+    let interface : value_at state.host.interfaces f.key ≡ Some c = ap (λ (v : SessionState). value_at v.host.interfaces f.key) (sym r) ∙ there in
     rw (interface_is s state i (Some f) r at, interface) refl
 
 -- one more handle of an interface
@@ -41,15 +41,15 @@ clone_interface-none s state n i none r = rw (interface_is s state i None r none
 pub clone_interface-used : (s : SessionState) (state : State) (n i : ℕ) (f : InterfaceState) → named s.interfaces i ≡ Some f → is_free s.interfaces n ≡ false → Represents s state → Gives s condition_line (clone_interface_answer state n i)
 unfolding clone_interface_answer
 clone_interface-used s state n i f at used r =
-    let here : is_free state.interfaces n ≡ false = ap (λ (v : SessionState). is_free v.interfaces n) (sym r.is) ∙ used in
+    let here : is_free state.interfaces n ≡ false = ap (λ (v : SessionState). is_free v.interfaces n) (sym r) ∙ used in
     rw (interface_is s state i (Some f) r at, here) (barred-gives s state r)
 
 pub clone_interface-gives : (s : SessionState) (state : State) (now : HostState) (after : List (Option InterfaceState)) (n i : ℕ) (f : InterfaceState) → named s.interfaces i ≡ Some f → is_free s.interfaces n ≡ true → now ≡ handle_cloned s.host f.key → after ≡ set_name s.interfaces n f → Represents s state → Gives (record s { host = now; interfaces = after }) ok_line (clone_interface_answer state n i)
 unfolding clone_interface_answer
 clone_interface-gives s state now after n i f at free is put r =
-    let here : is_free state.interfaces n ≡ true = ap (λ (v : SessionState). is_free v.interfaces n) (sym r.is) ∙ free in
+    let here : is_free state.interfaces n ≡ true = ap (λ (v : SessionState). is_free v.interfaces n) (sym r) ∙ free in
     let host : now ≡ handle_cloned state.host f.key = is ∙ ap (λ (h : HostState). handle_cloned h f.key) (host_is s state r) in
-    let names : after ≡ set_name state.interfaces n f = put ∙ ap (λ (v : SessionState). set_name v.interfaces n f) r.is in
+    let names : after ≡ set_name state.interfaces n f = put ∙ ap (λ (v : SessionState). set_name v.interfaces n f) r in
     rw (interface_is s state i (Some f) r at, here)
     (record { state = represents-handled s state now (handle_cloned state.host f.key) after (set_name state.interfaces n f) r host names; same = refl })
 
@@ -57,7 +57,7 @@ clone_interface-gives s state now after n i f at free is put r =
 pub release-none : (s : SessionState) (state : State) (after : List (Option InterfaceState)) (i : ℕ) → named s.interfaces i ≡ None → after ≡ freed s.interfaces i → Represents s state → Gives (record s { interfaces = after }) condition_line (release_answer state i)
 unfolding release_answer
 release-none s state after i none rest r =
-    let names : after ≡ state.interfaces = rest ∙ freed-none s.interfaces i none ∙ ap (λ (v : SessionState). v.interfaces) r.is in
+    let names : after ≡ state.interfaces = rest ∙ freed-none s.interfaces i none ∙ ap (λ (v : SessionState). v.interfaces) r in
     rw (interface-none s state i r none)
     (record { state = represents-handled s state s.host state.host after state.interfaces r (host_is s state r) names; same = refl })
 
@@ -68,7 +68,7 @@ pub release-gives : (s : SessionState) (state : State) (now : HostState) (after 
 unfolding release_answer
 release-gives s state now after i f c at there alone is rest r =
     let host : now ≡ handle_closed state.host f.key = is ∙ ap (λ (h : HostState). handle_closed h f.key) (host_is s state r) in
-    let names : after ≡ freed state.interfaces i = rest ∙ ap (λ (v : SessionState). freed v.interfaces i) r.is in
+    let names : after ≡ freed state.interfaces i = rest ∙ ap (λ (v : SessionState). freed v.interfaces i) r in
     rw (interface-some s state i f c r at there, shared_is s state f c false r alone)
     (record { state = represents-handled s state now (handle_closed state.host f.key) after (freed state.interfaces i) r host names; same = refl })
 
@@ -77,7 +77,7 @@ unfolding release_answer
 release-refused s state now after i f c error at there shared in_use same put r =
     rw (interface-some s state i f c r at there, shared_is s state f c true r shared)
     (record {
-      state = represents-handled s state now state.host after state.interfaces r (same ∙ host_is s state r) (put ∙ ap (λ (v : SessionState). v.interfaces) r.is);
+      state = represents-handled s state now state.host after state.interfaces r (same ∙ host_is s state r) (put ∙ ap (λ (v : SessionState). v.interfaces) r);
       same = ap error_line (sym in_use);
     })
 

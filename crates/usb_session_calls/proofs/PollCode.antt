@@ -12,14 +12,14 @@ use Rattle.usb_device_host.specs.HostBus.{bus_of}
 use Rattle.usb_device_host.specs.HostCalls.{host_calls}
 use Rattle.usb_session_text.specs.Calls.{condition_line}
 use Rattle.usb_session_text.specs.Completions.{polled_line, count_line}
-use Rattle.usb_session_calls.specs.State.{State, Endpoint, pending, with_host}
+use Rattle.usb_session_calls.specs.State.{State, Endpoint, with_host}
 use Rattle.usb_session_calls.specs.Answer.{Answer, answer_with}
 use Rattle.usb_session_calls.specs.Polls.{poll_on, took}
 use Rattle.usb_session_calls.specs.OpenCalls.{CallKeeps, CallAnswers}
 use Rattle.usb_session_calls.proofs.Queue.{call-told, front_kept, front-answers, polled-goes, polled-past, polled-rest}
 
 abbrev pub poll : State → ℕ → Endpoint → Answer
-poll state e h = poll_on state e (slice_get h.tickets h.taken)
+poll state e h = poll_on state e (slice_get h.state.pending 0)
 
 pub nothing_pending : (l : List ℕ) (n : ℕ) → n ≡ length l → n ≡ 0 → l ≡ []
 nothing_pending [] n count none = refl
@@ -62,7 +62,7 @@ poll-keeps host now x y r is stands others =
     }
 
 -- the number of pending transfers is told
-pub pending-counted : {E : Type 0} (host : HostState) (x : EndpointState) (count : ℕ) (before text : String Global) (result : Result Unit E) → count ≡ length x.pending → OnOk result (string_bytes text ≡ string_bytes before ++ count_line count) → CallAnswers host host x x before text result (λ state e h. answer_with state (count_line (length (pending h))))
+pub pending-counted : {E : Type 0} (host : HostState) (x : EndpointState) (count : ℕ) (before text : String Global) (result : Result Unit E) → count ≡ length x.pending → OnOk result (string_bytes text ≡ string_bytes before ++ count_line count) → CallAnswers host host x x before text result (λ state e h. answer_with state (count_line (length h.state.pending)))
 pending-counted host x count before text result is printed =
-    call-told host host x x before text result (count_line count) (λ state e h. answer_with state (count_line (length (pending h)))) refl refl printed
+    call-told host host x x before text result (count_line count) (λ state e h. answer_with state (count_line (length h.state.pending))) refl refl printed
     (λ state e h host_was same. ap (λ (z : EndpointState). answer_with state (count_line (length z.pending))) same ∙ ap (λ n. answer_with state (count_line n)) (sym is))

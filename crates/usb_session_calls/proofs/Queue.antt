@@ -1,9 +1,7 @@
 -- What calls on an open endpoint answer.
-use Rattle.std.proofs.Common.{◌≡◌, ℕ, ◌≤◌, ◌+◌, suc, zero, arith, List, [], ◌∷◌, ◌++◌, length, drop, Option, Some, None, Result, Ok, Err, refl, ap, sym, ◌∙◌, subst, slice_get, String, string_bytes}
+use Rattle.std.proofs.Common.{◌≡◌, ℕ, List, [], ◌∷◌, ◌++◌, drop, Option, Some, None, Result, Ok, Err, refl, ap, sym, ◌∙◌, subst, slice_get, String, string_bytes}
 use Rattle.std.specs.Prelude.{OnOk}
-use Rattle.std.specs.Option.{option_map}
 use Rattle.std.specs.declared.alloc.Global.{Global}
-use Rattle.std.proofs.lemmas.Option.{same_Some}
 use Rattle.usb_xfer.specs.declared.transfer.Completion.{Completion}
 use Rattle.usb_kernel.specs.Extends.{Extends}
 use Rattle.usb_kernel.proofs.Extends.{extends-same}
@@ -18,78 +16,55 @@ use Rattle.usb_device_host.proofs.CallFrames.{keeps-open, keeps-taken}
 use Rattle.usb_device_host.proofs.WaitFrames.{line-keeps}
 use Rattle.usb_device_host.proofs.FollowLemmas.{taken-past}
 use Rattle.usb_session_calls.specs.Names.{named, change_named}
-use Rattle.usb_session_calls.specs.EndpointNames.{Own}
-use Rattle.usb_session_calls.specs.State.{State, Endpoint, endpoint_state, with_host}
+use Rattle.usb_session_calls.specs.State.{State, Endpoint, with_host}
 use Rattle.usb_session_calls.specs.Answer.{Answer, answer_with}
 use Rattle.usb_session_calls.specs.Answered.{Answered}
-use Rattle.usb_session_calls.specs.Polls.{took, one_taken}
+use Rattle.usb_session_calls.specs.Polls.{took, front_taken}
 use Rattle.usb_session_calls.specs.SessionState.{SessionState}
 use Rattle.usb_session_calls.specs.Relation.{Represents}
 use Rattle.usb_session_calls.specs.OpenCalls.{CallAnswers, with_called}
-use Rattle.usb_session_calls.proofs.Answering.{named_kept, host_is, told-answered}
+use Rattle.usb_session_calls.proofs.Answering.{host_is, told-answered}
 use Rattle.usb_session_calls.proofs.NameLemmas.{change_named-none}
 use Rattle.usb_session_calls.proofs.Called.{represents-put}
 
 -- an answer by which the host is another and the endpoint is changed, and a line is told
 pub record Comes (state : State) (e : ℕ) (h : Endpoint) (now : HostState) (y : EndpointState) (f : Endpoint → Endpoint) (line : List ℕ) (a : Answer) : Type 0 where
   pub is : a ≡ answer_with (record state { host = now; endpoints = change_named f state.endpoints e }) line
-  pub kept_is : endpoint_state (f h) ≡ y
-  pub few : (f h).taken ≤ length (f h).tickets
+  pub kept_is : (f h).state ≡ y
 
-kept_at : (s : SessionState) (state : State) (e : ℕ) (x : EndpointState) (h : Endpoint) → Represents s state → named s.endpoints e ≡ Some x → named state.endpoints e ≡ Some h → endpoint_state h ≡ x
-kept_at s state e x h r was at = same_Some (endpoint_state h) x (ap (option_map endpoint_state) (sym at) ∙ sym (named_kept s state e r) ∙ was)
-
-pub call-comes : {E : Type 0} (old now : HostState) (x y : EndpointState) (before text : String Global) (result : Result Unit E) (f : Endpoint → Endpoint) (line : List ℕ) (call : State → ℕ → Endpoint → Answer) → OnOk result (string_bytes text ≡ string_bytes before ++ line) → ((state : State) (e : ℕ) (h : Endpoint) → state.host ≡ old → endpoint_state h ≡ x → h.taken ≤ length h.tickets → Comes state e h now y f line (call state e h)) → CallAnswers old now x y before text result call
+pub call-comes : {E : Type 0} (old now : HostState) (x y : EndpointState) (before text : String Global) (result : Result Unit E) (f : Endpoint → Endpoint) (line : List ℕ) (call : State → ℕ → Endpoint → Answer) → OnOk result (string_bytes text ≡ string_bytes before ++ line) → ((state : State) (e : ℕ) (h : Endpoint) → state.host ≡ old → h.state ≡ x → Comes state e h now y f line (call state e h)) → CallAnswers old now x y before text result call
 call-comes old now x y before text (Err error) f line call printed comes = tt
 call-comes old now x y before text (Ok done) f line call printed comes =
-    λ s state e h r host was at.
-    let same = kept_at s state e x h r was at in
-    let c = comes state e h (sym (host_is s state r) ∙ host) same (r.few (Own e) h at) in
+    λ s state e h r host at same.
+    let c = comes state e h (sym (host_is s state r) ∙ host) same in
     subst (Answered (with_called s e now y) (string_bytes before) (string_bytes text)) (sym c.is)
     (told-answered (with_called s e now y) (record state { host = now; endpoints = change_named f state.endpoints e }) (string_bytes before) (string_bytes text) line
-    (represents-put s state now f e h y r at c.kept_is c.few)
-    printed)
+    (represents-put s state now f e h y r at c.kept_is) printed)
 
 -- only the host goes on
-pub call-host : {E : Type 0} (old now : HostState) (x y : EndpointState) (before text : String Global) (result : Result Unit E) (line : List ℕ) (call : State → ℕ → Endpoint → Answer) → y ≡ x → OnOk result (string_bytes text ≡ string_bytes before ++ line) → ((state : State) (e : ℕ) (h : Endpoint) → state.host ≡ old → endpoint_state h ≡ x → call state e h ≡ answer_with (with_host state now) line) → CallAnswers old now x y before text result call
+pub call-host : {E : Type 0} (old now : HostState) (x y : EndpointState) (before text : String Global) (result : Result Unit E) (line : List ℕ) (call : State → ℕ → Endpoint → Answer) → y ≡ x → OnOk result (string_bytes text ≡ string_bytes before ++ line) → ((state : State) (e : ℕ) (h : Endpoint) → state.host ≡ old → h.state ≡ x → call state e h ≡ answer_with (with_host state now) line) → CallAnswers old now x y before text result call
 call-host old now x y before text result line call same printed tells =
     call-comes old now x y before text result (λ z. z) line call printed
-    (λ state e h host_was kept_is few.
+    (λ state e h host_was kept_is.
     record {
       is = tells state e h host_was kept_is ∙ ap (λ (l : List (Option Endpoint)). answer_with (record state { host = now; endpoints = l }) line) (sym (change_named-none state.endpoints e));
       kept_is = kept_is ∙ sym same;
-      few = few;
     })
 
 -- nothing is changed
-pub call-told : {E : Type 0} (old now : HostState) (x y : EndpointState) (before text : String Global) (result : Result Unit E) (line : List ℕ) (call : State → ℕ → Endpoint → Answer) → now ≡ old → y ≡ x → OnOk result (string_bytes text ≡ string_bytes before ++ line) → ((state : State) (e : ℕ) (h : Endpoint) → state.host ≡ old → endpoint_state h ≡ x → call state e h ≡ answer_with state line) → CallAnswers old now x y before text result call
+pub call-told : {E : Type 0} (old now : HostState) (x y : EndpointState) (before text : String Global) (result : Result Unit E) (line : List ℕ) (call : State → ℕ → Endpoint → Answer) → now ≡ old → y ≡ x → OnOk result (string_bytes text ≡ string_bytes before ++ line) → ((state : State) (e : ℕ) (h : Endpoint) → state.host ≡ old → h.state ≡ x → call state e h ≡ answer_with state line) → CallAnswers old now x y before text result call
 call-told old now x y before text result line call stays same printed tells =
     call-host old now x y before text result line call same printed
     (λ state e h host_was kept_is. tells state e h host_was kept_is ∙ ap (λ (g : HostState). answer_with (with_host state g) line) (host_was ∙ sym stays))
 
--- the oldest pending ticket stands at the place of those that were taken
-front-at : (xs : List ℕ) (n : ℕ) → slice_get xs n ≡ slice_get (drop n xs) 0
-front-at [] zero = refl
-front-at [] (suc n) = refl
-front-at (x ∷ xs) zero = refl
-front-at (x ∷ xs) (suc n) = front-at xs n
-
-pub front_kept : (h : Endpoint) (x : EndpointState) (l : List ℕ) → endpoint_state h ≡ x → x.pending ≡ l → slice_get h.tickets h.taken ≡ slice_get l 0
-front_kept h x l same is = front-at h.tickets h.taken ∙ ap (λ (z : EndpointState). slice_get z.pending 0) same ∙ ap (λ (l : List ℕ). slice_get l 0) is
-
-drop_on : (xs : List ℕ) (n t : ℕ) (ts : List ℕ) → drop n xs ≡ t ∷ ts → (drop (n + 1) xs ≡ ts) × (n + 1 ≤ length xs)
-drop_on [] zero t ts is = absurd (cc)
-drop_on [] (suc n) t ts is = absurd (cc)
-drop_on (x ∷ xs) zero t ts is = (cc, omega arith)
-drop_on (x ∷ xs) (suc n) t ts is =
-    let more = drop_on xs n t ts is in
-    let s : suc n + 1 ≡ suc (n + 1) = omega arith in
-    (rw s more.0, omega (arith, more.1))
+-- the oldest pending ticket
+pub front_kept : (h : Endpoint) (x : EndpointState) (l : List ℕ) → h.state ≡ x → x.pending ≡ l → slice_get h.state.pending 0 ≡ slice_get l 0
+front_kept h x l same is = ap (λ (z : EndpointState). slice_get z.pending 0) same ∙ ap (λ (l : List ℕ). slice_get l 0) is
 
 -- it is taken where it is reaped at the host (mid) that the call came to. It is the first of these
 module _ {E : Type 0} (print : Option Completion → List ℕ) (old mid now : HostState) (x y : EndpointState) (before text : String Global) (result : Result Unit E) (call : State → ℕ → Endpoint → Answer) (t : ℕ) (ts : List ℕ) (r : Option Completion)
     (was : x.pending ≡ t ∷ ts) (printed : OnOk result (string_bytes text ≡ string_bytes before ++ print r))
-    (takes : (state : State) (e : ℕ) (h : Endpoint) → state.host ≡ old → slice_get h.tickets h.taken ≡ Some t → call state e h ≡ took print (with_host state mid) e t (transfer_completion mid.kernel.past t)) where
+    (takes : (state : State) (e : ℕ) (h : Endpoint) → state.host ≡ old → slice_get h.state.pending 0 ≡ Some t → call state e h ≡ took print (with_host state mid) e t (transfer_completion mid.kernel.past t)) where
   took-answers : (o : Option Completion) → transfer_completion mid.kernel.past t ≡ o → taken_if host_calls mid x t ts o ≡ front_found r now y → CallAnswers old now x y before text result call
   took-answers None none is =
       call-host old now x y before text result (print r) call (sym (ap (λ (p : Polled HostState). p.endpoint) is)) printed
@@ -98,16 +73,17 @@ module _ {E : Type 0} (print : Option Completion → List ℕ) (old mid now : Ho
       ∙ ap (took print (with_host state mid) e t) none
       ∙ ap (λ (p : Polled HostState). answer_with (with_host state p.bus) (print p.completion)) is)
   took-answers (Some c) come is =
-      call-comes old now x y before text result one_taken (print r) call printed
-      (λ state e h host_was same few.
-      let more = drop_on h.tickets h.taken t ts (ap (λ (z : EndpointState). z.pending) same ∙ was) in
+      call-comes old now x y before text result (front_taken t) (print r) call printed
+      (λ state e h host_was same.
       record {
         is =
             takes state e h host_was (front_kept h x (t ∷ ts) same was)
             ∙ ap (took print (with_host state mid) e t) come
-            ∙ ap (λ (p : Polled HostState). answer_with (record state { host = p.bus; endpoints = change_named one_taken state.endpoints e }) (print p.completion)) is;
-        kept_is = ap (λ (l : List ℕ). record (endpoint_state h) { pending = l }) more.0 ∙ ap (λ (z : EndpointState). record z { pending = ts }) same ∙ ap (λ (p : Polled HostState). p.endpoint) is;
-        few = more.1;
+            ∙ ap (λ (p : Polled HostState). answer_with (record state { host = p.bus; endpoints = change_named (front_taken t) state.endpoints e }) (print p.completion)) is;
+        kept_is =
+            ap (λ (z : EndpointState). record z { pending = drop 1 z.pending }) same
+            ∙ ap (λ (l : List ℕ). record x { pending = drop 1 l }) was
+            ∙ ap (λ (p : Polled HostState). p.endpoint) is;
       })
 
   pub front-answers : polled host_calls mid x ≡ front_found r now y → CallAnswers old now x y before text result call

@@ -1,8 +1,7 @@
 -- What a submission and a cancel answer.
-use Rattle.std.proofs.Common.{◌≡◌, ℕ, ◌≤◌, arith, List, [], ◌∷◌, ◌++◌, length, length-append, Result, Ok, Err, Bool, true, false, refl, ap, sym, ◌∙◌, subst, String, string_bytes}
+use Rattle.std.proofs.Common.{◌≡◌, ℕ, List, [], ◌∷◌, ◌++◌, length, Result, Ok, Err, Bool, true, false, refl, ap, sym, ◌∙◌, subst, String, string_bytes}
 use Rattle.std.specs.Prelude.{OnOk, OnErr, if◌then◌else◌}
 use Rattle.std.specs.declared.alloc.Global.{Global}
-use Rattle.std.proofs.lemmas.List.{drop-append-le}
 use Rattle.usb_desc.specs.declared.types.Direction.{Direction}
 use Rattle.usb_xfer.specs.BufferState.{BufferState}
 use Rattle.usb_kernel.specs.Extends.{Extends}
@@ -21,7 +20,7 @@ use Rattle.usb_device_host.proofs.CallFrames.{keeps-open, keeps-submitted, keeps
 use Rattle.usb_device_host.proofs.WaitFrames.{line-keeps, line-trans}
 use Rattle.usb_session_text.specs.Calls.{condition_line, ok_line}
 use Rattle.usb_session_calls.specs.Names.{change_named}
-use Rattle.usb_session_calls.specs.State.{State, Endpoint, endpoint_state, with_host}
+use Rattle.usb_session_calls.specs.State.{State, Endpoint, with_host}
 use Rattle.usb_session_calls.specs.Answer.{Answer, condition_answer, ok_answer}
 use Rattle.usb_session_calls.specs.Submits.{bars_submission, with_submission, submit_on}
 use Rattle.usb_session_calls.specs.Closes.{cancelled}
@@ -34,7 +33,7 @@ submit_seen state direction e b g z bars =
     if bars then condition_answer state
     else ok_answer (record state { host = entered host_calls g z b; endpoints = change_named (with_submission (length (tickets g.kernel.past))) state.endpoints e })
 
-submit-seen : (state : State) (direction : Direction) (e : ℕ) (b : BufferState) (h : Endpoint) (old : HostState) (x : EndpointState) (bars : Bool) → state.host ≡ old → endpoint_state h ≡ x → bars_submission old.kernel.past direction x ≡ bars → submit_on state direction e b h ≡ submit_seen state direction e b old x bars
+submit-seen : (state : State) (direction : Direction) (e : ℕ) (b : BufferState) (h : Endpoint) (old : HostState) (x : EndpointState) (bars : Bool) → state.host ≡ old → h.state ≡ x → bars_submission old.kernel.past direction x ≡ bars → submit_on state direction e b h ≡ submit_seen state direction e b old x bars
 submit-seen state direction e b h old x bars host_was same is =
     ap (λ (z : EndpointState). submit_seen state direction e b state.host z (bars_submission state.host.kernel.past direction z)) same
     ∙ ap (λ (g : HostState). submit_seen state direction e b g x (bars_submission g.kernel.past direction x)) host_was
@@ -45,23 +44,16 @@ submit-barred host x before text result direction b bars printed =
     call-told host host x x before text result condition_line (λ state e h. submit_on state direction e b h) refl refl printed
     (λ state e h host_was same. submit-seen state direction e b h host x true host_was same bars)
 
-kept-ticket : (h : Endpoint) (t : ℕ) → h.taken ≤ length h.tickets → endpoint_state (with_submission t h) ≡ record (endpoint_state h) { pending = (endpoint_state h).pending ++ t ∷ [] }
-kept-ticket h t few = ap (λ (l : List ℕ). record (endpoint_state h) { pending = l }) (drop-append-le h.taken h.tickets (t ∷ []) few)
-
-more_few : (n t : ℕ) (ts : List ℕ) → n ≤ length ts → n ≤ length (ts ++ t ∷ [])
-more_few n t ts few = omega (arith, length-append ts (t ∷ []))
-
 pub submit-made : {E : Type 0} (host now : HostState) (x y : EndpointState) (before text : String Global) (result : Result Unit E) (direction : Direction) (b : BufferState) → bars_submission host.kernel.past direction x ≡ false → now ≡ entered host_calls host x b → y ≡ record x { pending = x.pending ++ length (tickets host.kernel.past) ∷ [] } → OnOk result (string_bytes text ≡ string_bytes before ++ ok_line) → CallAnswers host now x y before text result (λ state e h. submit_on state direction e b h)
 submit-made host now x y before text result direction b bars bus pending printed =
     let t = length (tickets host.kernel.past) in
     call-comes host now x y before text result (with_submission t) ok_line (λ state e h. submit_on state direction e b h) printed
-    (λ state e h host_was same few.
+    (λ state e h host_was same.
     record {
       is =
           submit-seen state direction e b h host x false host_was same bars
           ∙ ap (λ (g : HostState). ok_answer (record state { host = g; endpoints = change_named (with_submission t) state.endpoints e })) (sym bus);
-      kept_is = kept-ticket h t few ∙ ap (λ (z : EndpointState). record z { pending = z.pending ++ t ∷ [] }) same ∙ sym pending;
-      few = more_few h.taken t h.tickets few;
+      kept_is = ap (λ (z : EndpointState). record z { pending = z.pending ++ t ∷ [] }) same ∙ sym pending;
     })
 
 keeps-handed : (h : HostState) (e : EndpointState) (b : BufferState) (valid : Bool) → KeepsOpen h (handed_over host_calls h (route_of e) (transfer_by (route_of e) b) valid)

@@ -1,14 +1,11 @@
 -- What waits and blocking transfers answer.
-use Rattle.std.proofs.Common.{◌≡◌, ℕ, ◌≤◌, ◌+◌, suc, zero, arith, List, [], ◌∷◌, ◌++◌, length, length-append, drop, Option, Some, None, Result, Bool, true, false, refl, ap, sym, ◌∙◌, slice_get, String, string_bytes}
-use Rattle.std.specs.Prelude.{OnOk, if◌then◌else◌, not, ◌||◌, ◌==◌, nat_le}
+use Rattle.std.proofs.Common.{◌≡◌, ℕ, List, [], ◌∷◌, ◌++◌, length, Option, Some, None, Result, Bool, true, false, refl, ap, sym, ◌∙◌, slice_get, String, string_bytes}
+use Rattle.std.specs.Prelude.{OnOk, if◌then◌else◌}
 use Rattle.std.specs.declared.alloc.Global.{Global}
-use Rattle.std.proofs.lemmas.Bool.Decides.{nat_tests}
 use Rattle.std.proofs.lemmas.Option.{none-some}
 use Rattle.usb_desc.specs.declared.types.Direction.{Direction}
 use Rattle.usb_xfer.specs.BufferState.{BufferState}
 use Rattle.usb_xfer.specs.declared.transfer.Completion.{Completion}
-use Rattle.usb_kernel.specs.declared.event.Event.{Event}
-use Rattle.usb_kernel.specs.Info.{unreaped}
 use Rattle.usb_kernel.specs.Tickets.{tickets}
 use Rattle.usb_kernel.proofs.Extends.{extends-trans}
 use Rattle.usb_kernel.specs.TransferCompletions.{transfer_completion}
@@ -25,18 +22,17 @@ use Rattle.usb_device_host.proofs.WaitFrames.{line-trans, went-waited, went-bloc
 use Rattle.usb_session_text.specs.Calls.{condition_line}
 use Rattle.usb_session_text.specs.Completions.{waited_line}
 use Rattle.usb_session_calls.specs.Names.{change_named}
-use Rattle.usb_session_calls.specs.State.{State, Endpoint, endpoint_state}
+use Rattle.usb_session_calls.specs.State.{State, Endpoint}
 use Rattle.usb_session_calls.specs.Answer.{Answer, answer_with, condition_answer}
-use Rattle.usb_session_calls.specs.Submits.{has_direction}
 use Rattle.usb_session_calls.specs.Waits.{wait_on, wait_ended}
 use Rattle.usb_session_calls.specs.Transfers.{bars_transfer, with_taken, transfer_ended, transfer_on}
 use Rattle.usb_session_calls.specs.OpenCalls.{CallKeeps, CallAnswers}
-use Rattle.usb_session_calls.proofs.PollCode.{nothing_pending, some-front}
+use Rattle.usb_session_calls.proofs.PollCode.{some-front}
 use Rattle.usb_session_calls.proofs.Queue.{call-comes, call-told, front_kept, front-answers, polled-goes, polled-past, polled-rest}
 use Rattle.usb_session_calls.proofs.SubmitCode.{line-entered, past-entered}
 
 abbrev pub wait : ℕ → State → ℕ → Endpoint → Answer
-wait timeout state e h = wait_on state e timeout (slice_get h.tickets h.taken)
+wait timeout state e h = wait_on state e timeout (slice_get h.state.pending 0)
 
 pub wait-barred : {E : Type 0} (host : HostState) (x : EndpointState) (before text : String Global) (result : Result Unit E) (timeout : ℕ) → x.pending ≡ [] → OnOk result (string_bytes text ≡ string_bytes before ++ condition_line) → CallAnswers host host x x before text result (wait timeout)
 wait-barred host x before text result timeout none printed =
@@ -78,7 +74,7 @@ abbrev transfer_seen : State → ℕ → BufferState → ℕ → HostState → E
 transfer_seen state e b timeout g z bars =
     if bars then condition_answer state else transfer_ended state e (count_of g) (blocked host_calls (count_of g) timeout (entered host_calls g z b))
 
-transfer-seen : (state : State) (direction : Direction) (e : ℕ) (b : BufferState) (timeout : ℕ) (h : Endpoint) (old : HostState) (x : EndpointState) (bars : Bool) → state.host ≡ old → endpoint_state h ≡ x → bars_transfer old.kernel.past direction x ≡ bars → transfer_on state direction e b timeout h ≡ transfer_seen state e b timeout old x bars
+transfer-seen : (state : State) (direction : Direction) (e : ℕ) (b : BufferState) (timeout : ℕ) (h : Endpoint) (old : HostState) (x : EndpointState) (bars : Bool) → state.host ≡ old → h.state ≡ x → bars_transfer old.kernel.past direction x ≡ bars → transfer_on state direction e b timeout h ≡ transfer_seen state e b timeout old x bars
 transfer-seen state direction e b timeout h old x bars host_was same is =
     ap (λ (z : EndpointState). transfer_seen state e b timeout state.host z (bars_transfer state.host.kernel.past direction z)) same
     ∙ ap (λ (g : HostState). transfer_seen state e b timeout g x (bars_transfer g.kernel.past direction x)) host_was
@@ -88,25 +84,6 @@ pub transfer-barred : {E : Type 0} (host : HostState) (x : EndpointState) (befor
 transfer-barred host x before text result direction b timeout bars printed =
     call-told host host x x before text result condition_line (λ state e h. transfer_on state direction e b timeout h) refl refl printed
     (λ state e h host_was same. transfer-seen state direction e b timeout h host x true host_was same bars)
-
--- a transfer that is not barred is of an endpoint with nothing pending
-none_by : (a : Bool) (n : ℕ) (b : Bool) → (not a || (not (n == 0) || b)) ≡ false → n ≡ 0
-none_by a n b allowed = grind (arith, nat_tests)
-
-allowed-none : (past : List Event) (direction : Direction) (x : EndpointState) → bars_transfer past direction x ≡ false → x.pending ≡ []
-allowed-none past direction x allowed = nothing_pending x.pending (length x.pending) refl (none_by (has_direction direction x) (length x.pending) (nat_le 1024 (unreaped past)) allowed)
-
--- a ticket came to it, and was taken
-drop_all_on : (xs : List ℕ) (n t : ℕ) → n ≤ length xs → drop n xs ≡ [] → drop (n + 1) (xs ++ t ∷ []) ≡ []
-drop_all_on [] zero t few is = refl
-drop_all_on [] (suc n) t few is = absurd (omega arith)
-drop_all_on (x ∷ xs) zero t few is = absurd (cc)
-drop_all_on (x ∷ xs) (suc n) t few is =
-    let s : suc n + 1 ≡ suc (n + 1) = omega arith in
-    rw s (drop_all_on xs n t (omega arith) is)
-
-one_more : (n t : ℕ) (ts : List ℕ) → n ≤ length ts → n + 1 ≤ length (ts ++ t ∷ [])
-one_more n t ts few = omega (arith, length-append ts (t ∷ []))
 
 -- the completion that was taken is the journal's
 took-is : (mid now : HostState) (x y : EndpointState) (t : ℕ) (ts : List ℕ) (c : Completion) (o : Option Completion) → taken_if host_calls mid x t ts o ≡ front_found (Some c) now y → (o ≡ Some c) × (host_taken mid t ≡ now)
@@ -121,19 +98,16 @@ pub transfer-answers : {E : Type 0} (host now : HostState) (x y : EndpointState)
 transfer-answers host now x y before text result direction b timeout c bars same_y is printed =
     let t = count_of host in
     let mid : HostState = made_by host x b timeout in
-    let none = allowed-none host.kernel.past direction x bars in
     let took = took-is mid now (record x { pending = t ∷ [] }) y t [] c (transfer_completion mid.kernel.past t) is in
     call-comes host now x y before text result (with_taken t) (waited_line (Some c)) (λ state e h. transfer_on state direction e b timeout h) printed
-    (λ state e h host_was same few.
-    let here : drop h.taken h.tickets ≡ [] = ap (λ (z : EndpointState). z.pending) same ∙ none in
+    (λ state e h host_was same.
     let after = λ (g : HostState). record state { host = g; endpoints = change_named (with_taken t) state.endpoints e } in
     record {
       is =
           transfer-seen state direction e b timeout h host x false host_was same bars
           ∙ ap (λ (v : Option Completion). answer_with (after (host_taken mid t)) (waited_line v)) took.0
           ∙ ap (λ (g : HostState). answer_with (after g) (waited_line (Some c))) took.1;
-      kept_is = ap (λ (l : List ℕ). record (endpoint_state h) { pending = l }) (drop_all_on h.tickets h.taken t few here ∙ sym here) ∙ same ∙ sym same_y;
-      few = one_more h.taken t h.tickets few;
+      kept_is = same ∙ sym same_y;
     })
 
 pub transfer-keeps : (host now : HostState) (x y : EndpointState) (b : BufferState) (timeout : ℕ) (c : Completion) → transferred host_calls timeout host x b ≡ front_found (Some c) now y → y ≡ x → Stands (bus_of now) y → KeepsOthers (bus_of host) (bus_of now) x.key → CallKeeps host now x y

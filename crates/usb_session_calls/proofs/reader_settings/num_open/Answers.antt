@@ -27,4 +27,4 @@ returns-clause-keeps c =
 pub returns-clause-answered : goal.returns-clause-answered
 returns-clause-answered c =
     num-made c.args.host.now c.set_num_transfers.new.bus c.args.reader.now c.set_num_transfers.new.self c.args.count c.args.line.now c.write_ok.new.out c.write_ok.result
-    (sym c.bars_count.ensures.barred ∙ c.if-bars_count.false) (search rules) c.set_num_transfers.ensures.goes c.write_ok.ensures.text
+    (sym c.bars_count.ensures.barred ∙ c.if-bars_count.false) (search rules) c.write_ok.ensures.text
