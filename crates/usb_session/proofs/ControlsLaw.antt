@@ -36,7 +36,8 @@ use Rattle.usb_session.proofs.EveryLine.{answer-does}
 use Rattle.usb_session.proofs.OrderLemmas.{goes-keeps, ended-given, given-within}
 use Rattle.usb_session.proofs.TimesLemmas.{times, times-append, counts-times, times_awaited, awaited-none}
 use Rattle.usb_session.proofs.StepLemmas.{Inv, below-step, few-taken, answer-step, handed-moves, none-handed, future_closed-step}
-use Rattle.usb_session.proofs.HandleLemmas.{readers-step, writers-step, ends-step, futures-step, end-quiet, no-future_start, inv-start, inv-of, runs-go}
+use Rattle.usb_session.proofs.HandleLemmas.{readers-step, writers-step, ends-step, futures-step, end-quiet, inv-start, inv-of, runs-go}
+use Rattle.usb_session.proofs.RunLemmas.{no-future_start}
 use Rattle.usb_session.proofs.FuturesAwaited.{AllAwait, Parting, parting-then, parting-same, acts-parting}
 use Rattle.usb_session.proofs.ControlCame.{tickets_told, tickets_closed, future-given, both_by, both-parted, Came, came-on, Gave, gave-on, answer-tells, answer-came, answer-gives, closed_under-gives}
 

@@ -1,7 +1,6 @@
 -- The endpoints of a whole script.
 use Rattle.std.proofs.Common.{◌≡◌, ◌≢◌, ℕ, ◌<◌, ◌+◌, ◌-◌, suc, zero, arith, false, List, [], ◌∷◌, ◌++◌, length, map, take, slice_get, Option, Some, None, refl, ap, sym, ◌∙◌, subst, inl, inr}
 use Rattle.std.specs.Prelude.{option_and_then, All, count_by, ◌==◌}
-use Rattle.std.specs.Option.{option_map}
 use Rattle.std.proofs.lemmas.Bool.{cases_eq, cond_both}
 use Rattle.std.proofs.lemmas.List.Elements.{All-append, All-nil, All-cons}
 use Rattle.std.proofs.lemmas.Option.{none-some}
@@ -25,7 +24,7 @@ use Rattle.usb_device_host.proofs.CountLemmas.{KeepsCount, count-same, count-tra
 use Rattle.usb_device_host.proofs.FollowLemmas.{on-finished}
 use Rattle.usb_device.specs.Futures.{FutureState}
 use Rattle.usb_session_calls.specs.Names.{named}
-use Rattle.usb_session_calls.specs.State.{State, Endpoint, Reader, Writer, tickets_of, with_host}
+use Rattle.usb_session_calls.specs.State.{State, Endpoint, tickets_of, with_host}
 use Rattle.usb_session_calls.specs.EndpointNames.{EndpointName, Own, OfReader, OfWriter, endpoint_under}
 use Rattle.usb_session_calls.specs.Readers.{reader_closed}
 use Rattle.usb_session_calls.specs.Writers.{writer_closed}
@@ -49,8 +48,8 @@ use Rattle.usb_session.proofs.ReaderDoes.{reader_closed-does, reader_closed-shut
 use Rattle.usb_session.proofs.WriterDoes.{writer_closed-does, writer_closed-shuts}
 use Rattle.usb_session.proofs.DeviceLines.{handles-quiet}
 use Rattle.usb_session.proofs.AccountLemmas.{accounted-start, accounted-answer}
-use Rattle.usb_session_calls.proofs.NameLemmas.{named-replicate}
 use Rattle.usb_session_calls.proofs.EndpointNameLemmas.{Changed, cases_name, changed-gone}
+use Rattle.usb_session.proofs.RunLemmas.{none-start, no-future_start}
 use Rattle.usb_session.proofs.TimesLemmas.{times, times-append, counts-times, among, among-within, times_open, IsAmong, among-names, open-none, awaited-none}
 use Rattle.usb_session.proofs.OrderLemmas.{Leaves, LeavesTickets, goes-then, closed-few, closed-taken, closed-others}
 use Rattle.usb_session.proofs.StepLemmas.{Inv, Step, Closes, closes-on, all-tickets, step-then, step-after, step-quiet, acts-step, few-taken, answer-step, below-step, future_closed-step}
@@ -197,16 +196,6 @@ runs state lines (item ∷ items) inv =
     }
 
 -- the beginning
-none-start : (items : List Item) (e : EndpointName) → endpoint_under (start items) e ≡ None
-unfolding start
-none-start items (Own e) = named-replicate 64 e
-none-start items (OfReader r) = ap (option_map (λ (x : Reader). x.endpoint)) (named-replicate 64 r)
-none-start items (OfWriter w) = ap (option_map (λ (x : Writer). x.endpoint)) (named-replicate 64 w)
-
-pub no-future_start : (items : List Item) (n : ℕ) → named (start items).futures n ≡ None
-unfolding start
-no-future_start items n = named-replicate 64 n
-
 names-start : (items : List Item) → name_counts (start items) ≡ record { own = 64; readers = 64; writers = 64 }
 unfolding start
 names-start items = refl
