@@ -32,7 +32,7 @@ use Rattle.usb_session.specs.Ends.{readers_closed, writers_closed, endpoints_clo
 use Rattle.usb_session.specs.Output.{start}
 use Rattle.usb_session.specs.Accounts.{Covered, IsAwaited, Accounted, StartIsAccounted, AnswerKeepsAccounts, CloseKeepsAccounts}
 use Rattle.usb_session.specs.Served.{ClosedEndpoint}
-use Rattle.usb_session_calls.proofs.NameLemmas.{named_of, free_place, named-freed_other, named-set, named-set_other}
+use Rattle.usb_session_calls.proofs.NameLemmas.{free-none, named-freed_other, named-set, named-set_other}
 use Rattle.usb_session_calls.proofs.EndpointNameLemmas.{Changed, cases_name}
 use Rattle.usb_session.proofs.Does.{Quiet, Changes, MovesTo, Closing, ControlMove, Acts, SameTickets, without_future_of, at-host, goes, opens, submits, fits, reads, starts, controls, frees, ends, takes, closes, moves}
 use Rattle.usb_session.proofs.DeviceLines.{handles-quiet}
@@ -173,7 +173,7 @@ accounted-close {state} e h here changes a =
 awaited-set : (futures : List (Option FutureState)) (n : ℕ) (x : FutureState) (t key : ℕ) → is_free futures n ≡ true → IsAwaited futures t key → IsAwaited (set_name futures n x) t key
 awaited-set futures n x t key free w =
     elim (cases_eq w.name n) [
-      | inl same ↦ absurd (none-some w.future (sym (named_of futures n None (free_place futures n free)) ∙ ap (named futures) (sym same) ∙ w.at))
+      | inl same ↦ absurd (none-some w.future (sym (free-none futures n free) ∙ ap (named futures) (sym same) ∙ w.at))
       | inr apart ↦ record { name = w.name; future = w.future; at = named-set_other futures n w.name x apart ∙ w.at; key_is = w.key_is; ticket_is = w.ticket_is }
     ]
 

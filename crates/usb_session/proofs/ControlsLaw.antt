@@ -1,7 +1,7 @@
 -- The control transfers of a whole script.
 use Rattle.std.proofs.Common.{◌≡◌, ◌≢◌, ℕ, ◌<◌, ◌+◌, zero, suc, arith, List, [], ◌∷◌, ◌++◌, map, length, Option, Some, None, refl, ap, sym, ◌∙◌, append-nil, inl, inr}
 use Rattle.std.specs.Prelude.{All, option_and_then, slice_get}
-use Rattle.std.proofs.lemmas.Bool.{cases_eq}
+use Rattle.std.proofs.lemmas.Bool.{cases_eq, cases_lt}
 use Rattle.std.proofs.lemmas.List.{length-replicate, map-append}
 use Rattle.std.proofs.lemmas.List.Elements.{All-append, All-nil}
 use Rattle.std.proofs.lemmas.Option.{none-some}
@@ -11,13 +11,12 @@ use Rattle.usb_device_ledger.specs.EndedTickets.{ended_at}
 use Rattle.usb_device_host.specs.HostState.{HostState}
 use Rattle.usb_device_host.specs.Finishes.{HasEnds}
 use Rattle.usb_session_calls.specs.Names.{named, freed}
-use Rattle.usb_session_calls.proofs.NameLemmas.{named-freed, named-freed_other, named-replicate}
+use Rattle.usb_session_calls.proofs.NameLemmas.{named-freed, named-freed_other, named-past}
 use Rattle.usb_script_lines.specs.declared.item.Item.{Item}
 use Rattle.usb_session_calls.specs.State.{State}
 use Rattle.usb_session_calls.specs.Calls.{call_of}
 use Rattle.usb_session.specs.Answers.{answer}
-use Rattle.usb_session_calls.specs.ReaderAt.{reader_place}
-use Rattle.usb_session_calls.specs.WriterAt.{writer_place}
+use Rattle.usb_session_calls.specs.EndpointNames.{EndpointName, Own, OfReader, OfWriter}
 use Rattle.usb_session_calls.specs.Closes.{closed}
 use Rattle.usb_session_calls.specs.Readers.{reader_closed}
 use Rattle.usb_session_calls.specs.Writers.{writer_closed}
@@ -35,9 +34,10 @@ use Rattle.usb_session.proofs.ReaderDoes.{reader_closed-does}
 use Rattle.usb_session.proofs.WriterDoes.{writer_closed-does}
 use Rattle.usb_session.proofs.EveryLine.{answer-does}
 use Rattle.usb_session.proofs.OrderLemmas.{goes-keeps, ended-given, given-within}
-use Rattle.usb_session.proofs.TimesLemmas.{times, times-append, counts-times, ticket_in, times_awaited, times-none, times-replicate}
+use Rattle.usb_session.proofs.TimesLemmas.{times, times-append, counts-times, times_awaited, awaited-none}
 use Rattle.usb_session.proofs.StepLemmas.{Inv, below-step, few-taken, answer-step, handed-moves, none-handed, future_closed-step}
 use Rattle.usb_session.proofs.HandleLemmas.{readers-step, writers-step, ends-step, futures-step, end-quiet, inv-start, inv-of, runs-go}
+use Rattle.usb_session.proofs.RunLemmas.{no-future_start}
 use Rattle.usb_session.proofs.FuturesAwaited.{AllAwait, Parting, parting-then, parting-same, acts-parting}
 use Rattle.usb_session.proofs.ControlCame.{tickets_told, tickets_closed, future-given, both_by, both-parted, Came, came-on, Gave, gave-on, answer-tells, answer-came, answer-gives, closed_under-gives}
 
@@ -64,11 +64,11 @@ line-adds state line t inv all =
     omega arith
 
 -- the end closes readers, writers and endpoints
-below-parting : (act : State → ℕ → State) (place : ℕ → ℕ) → Closing act place → (state : State) (k : ℕ) → Inv state → AllAwait state → Parting state (below act state k) []
-below-parting act place closing state zero inv all = parting-same state state refl (extends-same state.host.kernel.past) all
-below-parting act place closing state (suc k) inv all =
-    let first = below-parting act place closing state k inv all in
-    parting-then first (acts-parting tt (closing (below act state k) k (λ e. [])) (below-step act place closing state (λ e. []) k inv).inv first.awaits)
+below-parting : (act : State → ℕ → State) (name : ℕ → EndpointName) → Closing act name → (state : State) (k : ℕ) → Inv state → AllAwait state → Parting state (below act state k) []
+below-parting act name closing state zero inv all = parting-same state state refl (extends-same state.host.kernel.past) all
+below-parting act name closing state (suc k) inv all =
+    let first = below-parting act name closing state k inv all in
+    parting-then first (acts-parting tt (closing (below act state k) k (λ e. [])) (below-step act name closing state (λ e. []) k inv).inv first.awaits)
 
 -- and then the futures
 record FuturesEnd (state : State) (k : ℕ) : Type 0 where
@@ -134,18 +134,21 @@ control-end state inv all names =
     let written = writers_closed read 64 in
     let mid = endpoints_closed written 64 in
     let last = futures_closed mid 64 in
-    let one_ = below-parting reader_closed reader_place reader_closed-does state 64 inv all in
+    let one_ = below-parting reader_closed OfReader reader_closed-does state 64 inv all in
     let inv_read = (readers-step state (λ e. []) 64 inv).inv in
-    let two = parting-then one_ (below-parting writer_closed writer_place writer_closed-does read 64 inv_read one_.awaits) in
+    let two = parting-then one_ (below-parting writer_closed OfWriter writer_closed-does read 64 inv_read one_.awaits) in
     let inv_written = (writers-step read (λ e. []) 64 inv_read).inv in
-    let three = parting-then two (below-parting closed (λ e. e) closed-does written 64 inv_written two.awaits) in
+    let three = parting-then two (below-parting closed Own closed-does written 64 inv_written two.awaits) in
     let inv_mid = (ends-step written (λ e. []) 64 inv_written).inv in
     let futures = futures-end mid 64 inv_mid three.awaits in
     record {
       adds = λ t.
           let before = three.adds t in
           let here = futures.adds t in
-          let none = times-none ticket_in t last.futures (λ n below. none-future mid 64 n (omega (arith, below, futures.names, three.names, names))) in omega arith;
+          let none = awaited-none t last.futures (λ n. elim (cases_lt n 64) [
+            | inl below ↦ none-future mid 64 n below
+            | inr beyond ↦ named-past last.futures n (omega (arith, beyond, futures.names, three.names, names))
+          ]) in omega arith;
       came = All-nil (Came (last_host state []));
       gives = gave-on last.host (last_host state []) (futures_at_end mid 64) (goes-keeps last.host (last_host state []) (end-quiet last).keeps) futures.gives;
     }
@@ -175,16 +178,11 @@ control-runs state (line ∷ items) inv all names =
 
 -- before the first line no future is open
 none-await : (items : List Item) → AllAwait (start items)
-unfolding start
-none-await items n f is = absurd (none-some f (sym (named-replicate 64 n) ∙ is))
+none-await items n f is = absurd (none-some f (sym (no-future_start items n) ∙ is))
 
 start-futures : (items : List Item) → length (start items).futures ≡ 64
 unfolding start
 start-futures items = length-replicate {A = Option FutureState} 64 None
-
-none-awaited : (items : List Item) (t : ℕ) → times_awaited t (start items).futures ≡ 0
-unfolding start
-none-awaited items t = times-replicate ticket_in t 64
 
 await-behind : (state : State) (items : List Item) → Inv state → AllAwait state → AllAwait (behind state items)
 await-behind state [] inv all = all
@@ -208,7 +206,7 @@ scripts-serve_controls items ends =
       closed = λ k d below. given-last last _ ends (run.gives k d below);
       once = λ t.
           let all = run.adds t in
-          let none = none-awaited items t in
+          let none = awaited-none t (start items).futures (no-future_start items) in
           let parts = times-append t (tickets_told answers) (tickets_closed closed) in
           let same : times t (tickets_parted answers closed) ≡ times t (control_tickets_from (start items) items) = omega arith in
           counts-times t (tickets_parted answers closed) ∙ (same ∙ sym (counts-times t (control_tickets_from (start items) items)));

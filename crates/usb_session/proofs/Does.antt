@@ -230,6 +230,10 @@ closing-does state e lines (Some x) its a without here none same other changes q
 abbrev pub Closing : (State → ℕ → State) → (ℕ → EndpointName) → Type 0
 Closing act name = (state : State) (n : ℕ) (lines : EndpointName → List (List ℕ)) → Acts (silent (act state n)) state (closed_under state lines (name n)) []
 
+-- and then nothing is
+abbrev pub Shuts : (State → ℕ → State) → (ℕ → EndpointName) → Type 0
+Shuts act name = (state : State) (n : ℕ) → Changed (endpoint_under state) (endpoint_under (act state n)) (name n) None
+
 -- the state behind a change has the host that the change names
 pub at-host : {old new : State} {host : HostState} {e : EndpointName} {o : Option Endpoint} (P : State → Type 0) → Changes old new host e o → P (with_host new host) → P new
 at-host {new = new} P changes now = subst P (ap (with_host new) (sym changes.host_is)) now

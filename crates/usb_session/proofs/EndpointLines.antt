@@ -43,11 +43,11 @@ use Rattle.usb_session_calls.specs.Waits.{wait_on}
 use Rattle.usb_session_calls.specs.Transfers.{bars_transfer, with_taken, transfer_made, transfer_on}
 use Rattle.usb_session_calls.specs.Closes.{without_endpoint, close_answer, closed_at, closed}
 use Rattle.usb_session.specs.Served.{closed_under}
-use Rattle.usb_session_calls.specs.EndpointNames.{EndpointName, Own}
+use Rattle.usb_session_calls.specs.EndpointNames.{EndpointName, Own, endpoint_under}
 use Rattle.usb_session_calls.proofs.NameLemmas.{free-none}
-use Rattle.usb_session_calls.proofs.EndpointNameLemmas.{set-changes, freed-changes, change-changes}
+use Rattle.usb_session_calls.proofs.EndpointNameLemmas.{Changed, set-changes, freed-changes, change-changes}
 use Rattle.usb_session.proofs.CallLeads.{then-changes}
-use Rattle.usb_session.proofs.Does.{Acts, Changes, Does, own-changes, says_done, goes, opens, submits, ends, takes, quiet-aside, quiet-same, told-does, barred-does, free-does, bar-does, try-does, ok-does, named-does, closing-does, result-other}
+use Rattle.usb_session.proofs.Does.{Shuts, Acts, Changes, Does, own-changes, says_done, goes, opens, submits, ends, takes, quiet-aside, quiet-same, told-does, barred-does, free-does, bar-does, try-does, ok-does, named-does, closing-does, result-other}
 use Rattle.usb_session_calls.proofs.DeviceHosts.{halt-aside}
 
 -- an endpoint is opened
@@ -168,6 +168,14 @@ unfolding closed
 closed-does state e lines =
     closing-does state (Own e) lines (named state.endpoints e) (λ h. h) (λ o. silent (closed_at state e o)) (without_endpoint state e) (sym (map-id (named state.endpoints e))) refl (quiet-same state) (λ h. refl)
     (λ h is. closed-changes state e h) (λ h. quiet-same (without_endpoint state e h))
+
+pub closed-shuts : Shuts closed Own
+unfolding closed
+closed-shuts state e = by (named state.endpoints e) refl
+  where
+    by : (o : Option Endpoint) → named state.endpoints e ≡ o → Changed (endpoint_under state) (endpoint_under (closed_at state e o)) (Own e) None
+    by None is = record { here = is; others = λ d apart. refl }
+    by (Some h) is = (closed-changes state e h).endpoints
 
 pub close-does : (state : State) (e : ℕ) (lines : EndpointName → List (List ℕ)) → Acts (close_answer state e) state (closed_under state lines (Own e)) []
 unfolding close_answer

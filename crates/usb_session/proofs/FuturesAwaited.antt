@@ -12,19 +12,16 @@ use Rattle.usb_device_host.specs.HostCalls.{host_calls}
 use Rattle.usb_device_host.proofs.ControlLemmas.{started-due}
 use Rattle.usb_device_host.proofs.StartedLemmas.{Parts}
 use Rattle.usb_device.specs.Futures.{FutureState, fresh_future}
-use Rattle.usb_session_calls.specs.Names.{named, is_free, freed, set_name, nothing, something}
-use Rattle.usb_session_calls.proofs.NameLemmas.{place_of, free_place, named-freed, named-freed_other, named-set, named-set_other, length-freed, length-set_name}
+use Rattle.usb_session_calls.specs.Names.{named, is_free, freed, set_name}
+use Rattle.usb_session_calls.proofs.NameLemmas.{named-freed, named-freed_other, named-set, named-set_other, length-freed, length-set_name}
 use Rattle.usb_session_calls.specs.State.{State, tickets_of, with_host}
 use Rattle.usb_session_calls.specs.Answer.{Answer}
-use Rattle.usb_session_calls.specs.Submits.{submitted}
-use Rattle.usb_session_calls.specs.Polls.{taken_from}
-use Rattle.usb_session_calls.specs.Closes.{without_endpoint}
 use Rattle.usb_session.specs.Futures.{with_future}
 use Rattle.usb_session.specs.Served.{ClosedEndpoint}
 use Rattle.usb_session.specs.ControlAnswers.{listed}
 use Rattle.usb_session_calls.proofs.FutureLemmas.{deadline-stays, unfound}
-use Rattle.usb_session.proofs.TimesLemmas.{one, times, times-append, ticket_in, times_awaited, open-change}
-use Rattle.usb_session.proofs.Does.{ControlMove, Handed, Parted, handed_of, parted_of, handed-append, parted-append, handed-parted, parted-parted, Acts, moved, without_future_of, goes, opens, submits, fits, reads, starts, controls, frees, ends, takes, closes, moves}
+use Rattle.usb_session.proofs.TimesLemmas.{one, times, times-append, times_awaited, awaited-freed, awaited-set}
+use Rattle.usb_session.proofs.Does.{ControlMove, Handed, Parted, handed_of, parted_of, handed-append, parted-append, handed-parted, parted-parted, Acts, without_future_of, goes, opens, submits, fits, reads, starts, controls, frees, ends, takes, closes, moves}
 use Rattle.usb_session.proofs.StepLemmas.{Inv, step-quiet, step-open, step-push, step-take, step-close, step-move, step-start, step-control, step-free}
 
 -- a future has its ticket, and while that is not reaped its deadline
@@ -74,7 +71,6 @@ parting-same state next same later all =
 
 -- a control transfer is handed in, and its future is open under a name that was free
 parting-start : (state : State) (n : ℕ) (request : TransferData) (timeout device : ℕ) → Inv state → is_free state.futures n ≡ true → AllAwait state → Parting state (with_future state n request timeout device) (Handed (tickets_of state) ∷ [])
-unfolding set_name
 parting-start state n request timeout device inv free all =
     let m = tickets_of state in
     let next = with_future state n request timeout device in
@@ -89,7 +85,7 @@ parting-start state n request timeout device inv free all =
             subst (Awaits next.host) entry now
         | inr apart ↦ awaits-on state.host next.host g later (all k g (sym (named-set_other state.futures n k x apart) ∙ is))
       ];
-      adds = λ t. let change = open-change ticket_in t (something x) state.futures n None (free_place state.futures n free) in omega arith;
+      adds = λ t. let set = awaited-set t state.futures n x free in omega arith;
       names = length-set_name state.futures n x;
     }
 
@@ -101,7 +97,6 @@ parting-control state next t same later all =
 
 -- the host parts with the ticket of a future
 parting-free : (state : State) (n : ℕ) (f : FutureState) (host : HostState) → named state.futures n ≡ Some f → Parts state.host host f.ticket → AllAwait state → Parting state (without_future_of state host n) (map Parted (listed f.ticket))
-unfolding freed
 parting-free state n f host here parts all =
     let fs = freed state.futures n in
     record {
@@ -110,7 +105,7 @@ parting-free state n f host here parts all =
         | inr apart ↦ awaits-on state.host host g parts.past (all m g (sym (named-freed_other state.futures n m apart) ∙ is))
       ];
       adds = λ u.
-          let change = open-change ticket_in u nothing state.futures n (Some f) (place_of state.futures n f here) in
+          let freed_one = awaited-freed u state.futures n f here in
           let parted : times u (parted_of (map Parted (listed f.ticket))) ≡ times u (listed f.ticket) = ap (times u) (parted-parted (listed f.ticket)) in
           let handed : times u (handed_of (map Parted (listed f.ticket))) ≡ 0 = ap (λ ms. times u (handed_of ms)) (sym (append-nil (map Parted (listed f.ticket)))) ∙ ap (times u) (handed-parted (listed f.ticket) []) in
           omega arith;
@@ -123,21 +118,21 @@ acts-parting {few} {a} {state} fit (goes {next = mid} quiet rest) inv all =
     let first = parting-same state mid quiet.futures quiet.keeps.past all in
     parting-then first (acts-parting fit rest (step-quiet inv quiet).inv first.awaits)
 acts-parting fit (fits other rest) inv all = acts-parting fit (rest fit) inv all
-acts-parting {few} {a} {state} fit (reads e t h above here front other rest) inv all =
-    let step = step-take state e t h inv here front in
-    let first = parting-same state (taken_from state e t) refl step.goes.past all in
+acts-parting {few} {a} {state} fit (reads {next = mid} e t h stream here front other changes rest) inv all =
+    let step = step-take e t h inv here front changes in
+    let first = parting-same state mid changes.futures step.goes.past all in
     parting-then first (acts-parting fit rest step.inv first.awaits)
-acts-parting {few} {a} {state} fit (moves from to h g here free same read other quiet) inv all =
-    let step = step-move state from to h g inv here free same read in
-    let first = parting-same state (moved state from to g) refl step.goes.past all in
-    parting-then first (parting-same (moved state from to g) a.state quiet.futures quiet.keeps.past first.awaits)
-acts-parting {few} {a} {state} fit (opens e x free none zero_ outside rest) inv all =
-    let step = step-open state e x inv free none zero_ outside in
-    let first = parting-same state (record state { endpoints = set_name state.endpoints e x }) refl step.goes.past all in
+acts-parting {few} {a} {state} fit (moves {next = mid} from to h g here free same read other moved quiet) inv all =
+    let step = step-move from to h g inv here free same read moved in
+    let first = parting-same state mid (moved.put.futures ∙ moved.gone.futures) step.goes.past all in
+    parting-then first (parting-same mid a.state quiet.futures quiet.keeps.past first.awaits)
+acts-parting {few} {a} {state} fit (opens {next = mid} e x free none zero_ changes rest) inv all =
+    let step = step-open e x inv free none zero_ changes in
+    let first = parting-same state mid changes.futures step.goes.past all in
     parting-then first (acts-parting fit rest step.inv first.awaits)
-acts-parting {few} {a} {state} fit (submits e b h here within rest) inv all =
-    let step = step-push state e b h inv here in
-    let first = parting-same state (submitted state e b h) refl step.goes.past all in
+acts-parting {few} {a} {state} fit (submits {next = mid} e b h here within changes rest) inv all =
+    let step = step-push e b h inv here changes in
+    let first = parting-same state mid changes.futures step.goes.past all in
     parting-then first (acts-parting fit rest step.inv first.awaits)
 acts-parting {few} {a} {state} fit (starts n request timeout device free rest) inv all =
     let step = step-start state n request timeout device inv free in
@@ -152,11 +147,11 @@ acts-parting {few} {a} {state} fit (frees n f host here parts rest) inv all =
     let first = parting-free state n f host here parts all in
     parting-then first (acts-parting fit rest step.inv first.awaits)
 acts-parting {few} {a} {state} fit (ends other quiet) inv all = parting-same state a.state quiet.futures quiet.keeps.past all
-acts-parting {few} {a} {state} fit (takes e t h c here front came line quiet) inv all =
-    let step = step-take state e t h inv here (front fit) in
-    let first = parting-same state (taken_from state e t) refl step.goes.past all in
-    parting-then first (parting-same (taken_from state e t) a.state quiet.futures quiet.keeps.past first.awaits)
-acts-parting {few} {a} {state} fit (closes e h lines here other quiet) inv all =
-    let step = step-close state e h lines inv here in
-    let first = parting-same state (without_endpoint state e h) refl step.goes.past all in
-    parting-then first (parting-same (without_endpoint state e h) a.state quiet.futures quiet.keeps.past first.awaits)
+acts-parting {few} {a} {state} fit (takes {next = mid} e t h c here front came line changes quiet) inv all =
+    let step = step-take e t h inv here (front fit) changes in
+    let first = parting-same state mid changes.futures step.goes.past all in
+    parting-then first (parting-same mid a.state quiet.futures quiet.keeps.past first.awaits)
+acts-parting {few} {a} {state} fit (closes {next = mid} e h lines here other changes quiet) inv all =
+    let step = step-close e h lines inv here changes in
+    let first = parting-same state mid changes.futures step.goes.past all in
+    parting-then first (parting-same mid a.state quiet.futures quiet.keeps.past first.awaits)

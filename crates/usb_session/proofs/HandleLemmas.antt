@@ -1,8 +1,7 @@
 -- The endpoints of a whole script.
 use Rattle.std.proofs.Common.{◌≡◌, ◌≢◌, ℕ, ◌<◌, ◌+◌, ◌-◌, suc, zero, arith, false, List, [], ◌∷◌, ◌++◌, length, map, take, slice_get, Option, Some, None, refl, ap, sym, ◌∙◌, subst, inl, inr}
 use Rattle.std.specs.Prelude.{option_and_then, All, count_by, ◌==◌}
-use Rattle.std.proofs.lemmas.Bool.{cases_eq, cases_lt, cond_both}
-use Rattle.std.proofs.lemmas.List.{length-replicate}
+use Rattle.std.proofs.lemmas.Bool.{cases_eq, cond_both}
 use Rattle.std.proofs.lemmas.List.Elements.{All-append, All-nil, All-cons}
 use Rattle.std.proofs.lemmas.Option.{none-some}
 use Rattle.usb_kernel.specs.declared.event.Event.{Event}
@@ -24,13 +23,12 @@ use Rattle.usb_device_host.specs.HostTurns.{host_reaped}
 use Rattle.usb_device_host.proofs.CountLemmas.{KeepsCount, count-same, count-trans, discarded-count, reaped-count}
 use Rattle.usb_device_host.proofs.FollowLemmas.{on-finished}
 use Rattle.usb_device.specs.Futures.{FutureState}
-use Rattle.usb_session_calls.specs.Names.{named, freed}
+use Rattle.usb_session_calls.specs.Names.{named}
 use Rattle.usb_session_calls.specs.State.{State, Endpoint, tickets_of, with_host}
-use Rattle.usb_session_calls.specs.ReaderAt.{endpoint_place, reader_place}
-use Rattle.usb_session_calls.specs.WriterAt.{writer_place}
-use Rattle.usb_session_calls.specs.Readers.{reader_closed_at, reader_closed}
-use Rattle.usb_session_calls.specs.Writers.{writer_closed_at, writer_closed}
-use Rattle.usb_session_calls.specs.Closes.{closed_at, closed}
+use Rattle.usb_session_calls.specs.EndpointNames.{EndpointName, Own, OfReader, OfWriter, endpoint_under}
+use Rattle.usb_session_calls.specs.Readers.{reader_closed}
+use Rattle.usb_session_calls.specs.Writers.{writer_closed}
+use Rattle.usb_session_calls.specs.Closes.{closed}
 use Rattle.usb_session_calls.specs.Calls.{call_of}
 use Rattle.usb_session.specs.Answers.{answer}
 use Rattle.usb_session.specs.Below.{below, given_below}
@@ -44,111 +42,88 @@ use Rattle.usb_session.specs.Fates.{fate_lines, fate_lines_from}
 use Rattle.usb_session.specs.FinalFates.{FatesOfScripts}
 use Rattle.usb_session.specs.Sums.{counts_of}
 use Rattle.usb_session.proofs.FateLemmas.{fates-final}
-use Rattle.usb_session.proofs.Does.{Quiet, Closing, quiet-same, quiet-then}
-use Rattle.usb_session.proofs.EndpointLines.{closed-does}
-use Rattle.usb_session.proofs.ReaderDoes.{reader_closed-does}
-use Rattle.usb_session.proofs.WriterDoes.{writer_closed-does}
+use Rattle.usb_session.proofs.Does.{Quiet, Closing, Shuts, name_counts, quiet-same, quiet-then}
+use Rattle.usb_session.proofs.EndpointLines.{closed-does, closed-shuts}
+use Rattle.usb_session.proofs.ReaderDoes.{reader_closed-does, reader_closed-shuts}
+use Rattle.usb_session.proofs.WriterDoes.{writer_closed-does, writer_closed-shuts}
 use Rattle.usb_session.proofs.DeviceLines.{handles-quiet}
 use Rattle.usb_session.proofs.AccountLemmas.{accounted-start, accounted-answer}
-use Rattle.usb_session_calls.proofs.NameLemmas.{named-freed, named-freed_other, named-replicate}
-use Rattle.usb_session.proofs.TimesLemmas.{times, times-append, counts-times, among, among-within, tickets_in, ticket_in, times_open, times-none, times-replicate}
+use Rattle.usb_session_calls.proofs.EndpointNameLemmas.{Changed, cases_name, changed-gone}
+use Rattle.usb_session.proofs.RunLemmas.{none-start, no-future_start}
+use Rattle.usb_session.proofs.TimesLemmas.{times, times-append, counts-times, among, among-within, times_open, IsAmong, among-names, open-none, awaited-none}
 use Rattle.usb_session.proofs.OrderLemmas.{Leaves, LeavesTickets, goes-then, closed-few, closed-taken, closed-others}
 use Rattle.usb_session.proofs.StepLemmas.{Inv, Step, Closes, closes-on, all-tickets, step-then, step-after, step-quiet, acts-step, few-taken, answer-step, below-step, future_closed-step}
 use Rattle.usb_session.proofs.PrintLemmas.{Prints, prints-stay, taken_of, AllPrint, all-print}
 use Rattle.usb_session.proofs.TakeLemmas.{answer-takes}
 
 -- the end closes readers, writers and endpoints by number
-pub readers-step : (state : State) (lines : ℕ → List (List ℕ)) (k : ℕ) → Inv state → Step state (readers_closed state k) (read_at_end state lines k) []
-readers-step = below-step reader_closed reader_place reader_closed-does
+pub readers-step : (state : State) (lines : EndpointName → List (List ℕ)) (k : ℕ) → Inv state → Step state (readers_closed state k) (read_at_end state lines k) []
+readers-step = below-step reader_closed OfReader reader_closed-does
 
-pub writers-step : (state : State) (lines : ℕ → List (List ℕ)) (k : ℕ) → Inv state → Step state (writers_closed state k) (written_at_end state lines k) []
-writers-step = below-step writer_closed writer_place writer_closed-does
+pub writers-step : (state : State) (lines : EndpointName → List (List ℕ)) (k : ℕ) → Inv state → Step state (writers_closed state k) (written_at_end state lines k) []
+writers-step = below-step writer_closed OfWriter writer_closed-does
 
-pub ends-step : (state : State) (lines : ℕ → List (List ℕ)) (k : ℕ) → Inv state → Step state (endpoints_closed state k) (closed_at_end state lines k) []
-ends-step = below-step closed (λ e. e) closed-does
+pub ends-step : (state : State) (lines : EndpointName → List (List ℕ)) (k : ℕ) → Inv state → Step state (endpoints_closed state k) (closed_at_end state lines k) []
+ends-step = below-step closed Own closed-does
 
 -- and leaves no name open
-closed_at-none : (state : State) (e n : ℕ) (o : Option Endpoint) → named state.endpoints e ≡ o → (n ≢ e → named state.endpoints n ≡ None) → named (closed_at state e o).endpoints n ≡ None
-closed_at-none state e n None here others =
-    elim (cases_eq n e) [ inl same ↦ ap (named state.endpoints) same ∙ here | inr apart ↦ others apart ]
-closed_at-none state e n (Some h) here others =
-    elim (cases_eq n e) [
-      | inl same ↦ ap (named (freed state.endpoints e)) same ∙ named-freed state.endpoints e
-      | inr apart ↦ named-freed_other state.endpoints e n apart ∙ others apart
-    ]
+none-stays : {old new : EndpointName → Option Endpoint} {e : EndpointName} (d : EndpointName) → Changed old new e None → old d ≡ None → new d ≡ None
+none-stays {new = new} {e} d gone none = elim (cases_name d e) [ inl same ↦ ap new same ∙ gone.here | inr apart ↦ gone.others d apart ∙ none ]
 
-closed-none : (state : State) (e n : ℕ) → (n ≢ e → named state.endpoints n ≡ None) → named (closed state e).endpoints n ≡ None
-unfolding closed
-closed-none state e n others = closed_at-none state e n (named state.endpoints e) refl others
+module _ (act : State → ℕ → State) (name : ℕ → EndpointName) (shuts : Shuts act name) where
+  below-stays : (state : State) (k : ℕ) (d : EndpointName) → endpoint_under state d ≡ None → endpoint_under (below act state k) d ≡ None
+  below-stays state zero d none = none
+  below-stays state (suc k) d none = none-stays d (shuts (below act state k) k) (below-stays state k d none)
 
--- at the place of each
-reader_closed_at-endpoints : (state : State) (r : ℕ) (o : Option Endpoint) → (reader_closed_at state r o).endpoints ≡ (closed_at state (reader_place r) o).endpoints
-reader_closed_at-endpoints state r None = refl
-reader_closed_at-endpoints state r (Some h) = refl
-
-writer_closed_at-endpoints : (state : State) (w : ℕ) (o : Option Endpoint) → (writer_closed_at state w o).endpoints ≡ (closed_at state (writer_place w) o).endpoints
-writer_closed_at-endpoints state w None = refl
-writer_closed_at-endpoints state w (Some h) = refl
-
-abbrev ClosesAt : (State → ℕ → State) → (ℕ → ℕ) → Type 0
-ClosesAt act place = (state : State) (n : ℕ) → (act state n).endpoints ≡ (closed state (place n)).endpoints
-
-reader_closed-at : ClosesAt reader_closed reader_place
-unfolding reader_closed closed
-reader_closed-at state r = reader_closed_at-endpoints state r (named state.endpoints (reader_place r))
-
-writer_closed-at : ClosesAt writer_closed writer_place
-unfolding writer_closed closed
-writer_closed-at state w = writer_closed_at-endpoints state w (named state.endpoints (writer_place w))
-
-module _ (act : State → ℕ → State) (place : ℕ → ℕ) (at : ClosesAt act place) where
-  below-none : (state : State) (k n : ℕ) → n < k → named (below act state k).endpoints (place n) ≡ None
+  below-none : (state : State) (k n : ℕ) → n < k → endpoint_under (below act state k) (name n) ≡ None
   below-none state zero n few = absurd (omega arith)
   below-none state (suc k) n few =
-      let mid = below act state k in
-      ap (λ (l : List (Option Endpoint)). named l (place n)) (at mid k) ∙ closed-none mid (place k) (place n) (λ apart. below-none state k n (lower k n (λ same. apart (ap place same)) few))
+      let gone = shuts (below act state k) k in
+      elim (cases_eq n k) [
+        | inl same ↦ ap (λ m. endpoint_under (below act state (suc k)) (name m)) same ∙ gone.here
+        | inr apart ↦ none-stays (name n) gone (below-none state k n (lower k n apart few))
+      ]
     where
       lower : (k n : ℕ) → n ≢ k → n < suc k → n < k
       lower k n apart small = omega arith
 
-  -- what is closed stays so
-  below-stays : (state : State) (k n : ℕ) → named state.endpoints n ≡ None → named (below act state k).endpoints n ≡ None
-  below-stays state zero n none = none
-  below-stays state (suc k) n none =
-      let mid = below act state k in
-      ap (λ (l : List (Option Endpoint)). named l n) (at mid k) ∙ closed-none mid (place k) n (λ apart. below-stays state k n none)
-
 -- so in the end no endpoint is open
-none-open : (state : State) (n : ℕ) → n < 192 → named (endpoints_closed (writers_closed (readers_closed state 64) 64) 64).endpoints n ≡ None
-none-open state n few =
-    let read = readers_closed state 64 in
-    let written = writers_closed read 64 in
-    let stays = below-stays closed (λ e. e) (λ s e. refl) written 64 n in
-    elim (cases_lt n 64) [
-      | inl first ↦ below-none closed (λ e. e) (λ s e. refl) written 64 n first
-      | inr beyond ↦ elim (cases_lt n 128) [
-        | inl low ↦
-            let at : reader_place (n - 64) ≡ n = omega (arith, beyond) in
-            stays (below-stays writer_closed writer_place writer_closed-at read 64 n (ap (named read.endpoints) (sym at) ∙ below-none reader_closed reader_place reader_closed-at state 64 (n - 64) (omega (arith, low, beyond))))
-        | inr high ↦
-            let at : writer_place (n - 128) ≡ n = omega (arith, high) in
-            stays (ap (named written.endpoints) (sym at) ∙ below-none writer_closed writer_place writer_closed-at read 64 (n - 128) (omega (arith, few, high)))
-      ]
-    ]
+module _ (state : State) where
+  abbrev read : State
+  read = readers_closed state 64
+
+  abbrev written : State
+  written = writers_closed read 64
+
+  abbrev last : State
+  last = endpoints_closed written 64
+
+  none-among : (e : EndpointName) → IsAmong (record { own = 64; readers = 64; writers = 64 }) e → endpoint_under last e ≡ None
+  none-among (Own e) few = below-none closed Own closed-shuts written 64 e few
+  none-among (OfReader r) few =
+      below-stays closed Own closed-shuts written 64 (OfReader r) (below-stays writer_closed OfWriter writer_closed-shuts read 64 (OfReader r) (below-none reader_closed OfReader reader_closed-shuts state 64 r few))
+  none-among (OfWriter w) few = below-stays closed Own closed-shuts written 64 (OfWriter w) (below-none writer_closed OfWriter writer_closed-shuts read 64 w few)
+
+  none-open : name_counts last ≡ record { own = 64; readers = 64; writers = 64 } → (e : EndpointName) → endpoint_under last e ≡ None
+  none-open names e = by (endpoint_under last e) refl
+    where
+      by : (o : Option Endpoint) → endpoint_under last e ≡ o → endpoint_under last e ≡ None
+      by None is = is
+      by (Some h) is = none-among e (subst (λ c. IsAmong c e) names (among-names last e h is))
 
 -- futures are closed, and endpoints stay
 pub futures-step : (state : State) (k : ℕ) → Inv state → Step state (futures_closed state k) [] []
 futures-step state zero inv = step-quiet inv (quiet-same state)
 futures-step state (suc k) inv = let first = futures-step state k inv in step-then first (future_closed-step (futures_closed state k) k first.inv)
 
-future_closed-endpoints : (state : State) (n : ℕ) (o : Option FutureState) → (future_closed_at state n o).endpoints ≡ state.endpoints
-future_closed-endpoints state n None = refl
-future_closed-endpoints state n (Some f) = refl
+future_closed-endpoints : (state : State) (n : ℕ) (o : Option FutureState) (e : EndpointName) → endpoint_under (future_closed_at state n o) e ≡ endpoint_under state e
+future_closed-endpoints state n None e = refl
+future_closed-endpoints state n (Some f) e = refl
 
-futures-endpoints : (state : State) (k : ℕ) → (futures_closed state k).endpoints ≡ state.endpoints
+futures-endpoints : (state : State) (k : ℕ) (e : EndpointName) → endpoint_under (futures_closed state k) e ≡ endpoint_under state e
 unfolding future_closed_under
-futures-endpoints state zero = refl
-futures-endpoints state (suc k) = let mid = futures_closed state k in future_closed-endpoints mid k (named mid.futures k) ∙ futures-endpoints state k
+futures-endpoints state zero e = refl
+futures-endpoints state (suc k) e = let mid = futures_closed state k in future_closed-endpoints mid k (named mid.futures k) e ∙ futures-endpoints state k e
 
 -- the discards and reaps at the end
 discarded_below-count : (h : HostState) (n : ℕ) → KeepsCount h (discarded_below h n)
@@ -159,27 +134,30 @@ reaped_below-count : (h : HostState) (n : ℕ) → KeepsCount h (reaped_below h 
 reaped_below-count h zero = count-same h
 reaped_below-count h (suc n) = count-trans h (reaped_below h n) (host_reaped (reaped_below h n) n) (reaped_below-count h n) (reaped-count (reaped_below h n) n)
 
-pub end-quiet : (state : State) → Quiet state (with_host (devices_closed (interfaces_closed state 64) 64) (finished (devices_closed (interfaces_closed state 64) 64).host))
+abbrev pub finished_at : State → State
+finished_at state = with_host (devices_closed (interfaces_closed state 64) 64) (finished (devices_closed (interfaces_closed state 64) 64).host)
+
+pub end-quiet : (state : State) → Quiet state (finished_at state)
 unfolding finished
 end-quiet state =
     let last = (devices_closed (interfaces_closed state 64) 64).host in
     let n = length (tickets last.kernel.past) in
     let discarded = discarded_below last n in
     quiet-then (handles-quiet state)
-    (record { keeps = on-finished last; count = count-trans last discarded (reaped_below discarded n) (discarded_below-count last n) (reaped_below-count discarded n); endpoints = refl; futures = refl })
+    (record { keeps = on-finished last; count = count-trans last discarded (reaped_below discarded n) (discarded_below-count last n) (reaped_below-count discarded n); endpoints = λ e. refl; names = refl; futures = refl })
 
 -- what is done at the end once the endpoints are closed
-last-step : (state : State) → Inv state → Step state (with_host (devices_closed (interfaces_closed (futures_closed state 64) 64) 64) (finished (devices_closed (interfaces_closed (futures_closed state 64) 64) 64).host)) [] []
+last-step : (state : State) → Inv state → Step state (finished_at (futures_closed state 64)) [] []
 last-step state inv = let first = futures-step state 64 inv in step-after first (step-quiet first.inv (end-quiet (futures_closed state 64)))
 
 -- what these items and the end of the session make
-record Runs (state : State) (lines : ℕ → List (List ℕ)) (items : List Item) : Type 0 where
+record Runs (state : State) (lines : EndpointName → List (List ℕ)) (items : List Item) : Type 0 where
   goes : LeavesTickets state.host (last_host state items)
   closes : All (Closes (last_host state items)) (closed_endpoints_from state lines items)
-  adds : (t : ℕ) → times t (tickets_of_all (closed_endpoints_from state lines items)) + times t (control_tickets_from state items) + among t (tickets_of state) ≡ times_open t state.endpoints + among t (length (tickets (last_host state items).kernel.past))
+  adds : (t : ℕ) → times t (tickets_of_all (closed_endpoints_from state lines items)) + times t (control_tickets_from state items) + among t (tickets_of state) ≡ times_open t state + among t (length (tickets (last_host state items).kernel.past))
   count : length (last_host state items).tickets ≡ length (tickets (last_host state items).kernel.past)
 
-runs-end : (state : State) (lines : ℕ → List (List ℕ)) → Inv state → Runs state lines []
+runs-end : (state : State) (lines : EndpointName → List (List ℕ)) → Inv state → Runs state lines []
 unfolding ended all_closed
 runs-end state lines inv =
     let read = readers_closed state 64 in
@@ -195,12 +173,11 @@ runs-end state lines inv =
       closes = all.closes;
       adds = λ t.
           let whole = all.adds t in
-          let same = ap (times_open t) ((end-quiet (futures_closed mid 64)).endpoints ∙ futures-endpoints mid 64) in
-          let none = times-none tickets_in t mid.endpoints (λ n below. none-open state n (omega (arith, below, first.inv.names))) in omega arith;
+          let none = open-none t (finished_at (futures_closed mid 64)) (λ e. (end-quiet (futures_closed mid 64)).endpoints e ∙ futures-endpoints mid 64 e ∙ none-open state first.inv.names e) in omega arith;
       count = all.inv.count;
     }
 
-runs : (state : State) (lines : ℕ → List (List ℕ)) (items : List Item) → Inv state → Runs state lines items
+runs : (state : State) (lines : EndpointName → List (List ℕ)) (items : List Item) → Inv state → Runs state lines items
 runs state lines [] inv = runs-end state lines inv
 runs state lines (item ∷ items) inv =
     let next = (answer state item).state in
@@ -219,21 +196,28 @@ runs state lines (item ∷ items) inv =
     }
 
 -- the beginning
-pub inv-start : (items : List Item) → Inv (start items)
+names-start : (items : List Item) → name_counts (start items) ≡ record { own = 64; readers = 64; writers = 64 }
 unfolding start
-inv-start items =
-    record {
-      order = λ e h is. absurd (none-some h (sym (named-replicate 192 e) ∙ is));
-      once = λ t. let none = times-replicate tickets_in t 192 in let no_ = times-replicate ticket_in t 64 in omega arith;
-      waits = λ n f t is ticket. absurd (none-some f (sym (named-replicate 64 n) ∙ is));
-      count = refl;
-      names = length-replicate {A = Option Endpoint} 192 None;
-      read = λ e h is above. absurd (none-some h (sym (named-replicate 192 e) ∙ is));
-    }
+names-start items = refl
 
-nothing-open : (items : List Item) (t : ℕ) → (times_open t (start items).endpoints ≡ 0) × (tickets_of (start items) ≡ 0)
+no-tickets_start : (items : List Item) → (length (start items).host.tickets ≡ 0) × (tickets_of (start items) ≡ 0)
 unfolding start
-nothing-open items t = (times-replicate tickets_in t 192, refl)
+no-tickets_start items = (refl, refl)
+
+nothing-open : (items : List Item) (t : ℕ) → times_open t (start items) ≡ 0
+nothing-open items t = open-none t (start items) (none-start items)
+
+pub inv-start : (items : List Item) → Inv (start items)
+inv-start items =
+    let count = no-tickets_start items in
+    record {
+      order = λ e h is. absurd (none-some h (sym (none-start items e) ∙ is));
+      once = λ t. let none = nothing-open items t in let no_ = awaited-none t (start items).futures (no-future_start items) in omega arith;
+      waits = λ n f t is ticket. absurd (none-some f (sym (no-future_start items n) ∙ is));
+      count = count.0 ∙ sym count.1;
+      names = names-start items;
+      read = λ e h is stream. absurd (none-some h (sym (none-start items e) ∙ is));
+    }
 
 -- what was printed of the endpoints that are closed, and of which no reader or writer was made
 abbrev Printed : List Event → ClosedEndpoint → Type 0
@@ -246,65 +230,53 @@ closed_as-printed : (past : List Event) (lines : List (List ℕ)) (o : Option En
 closed_as-printed past lines None prints = All-nil (Printed past)
 closed_as-printed past lines (Some h) prints = All-cons (Printed past) (record { endpoint = h; past = past; lines = lines }) [] (prints h refl) (All-nil (Printed past))
 
-closed_under-printed : (state : State) (lines : ℕ → List (List ℕ)) (e : ℕ) → AllPrint state lines → All (Printed state.host.kernel.past) (closed_under state lines e)
-closed_under-printed state lines e prints = closed_as-printed state.host.kernel.past (lines e) (named state.endpoints e) (λ h is. prints e h is)
+closed_under-printed : (state : State) (lines : EndpointName → List (List ℕ)) (e : EndpointName) → AllPrint state lines → All (Printed state.host.kernel.past) (closed_under state lines e)
+closed_under-printed state lines e prints = closed_as-printed state.host.kernel.past (lines e) (endpoint_under state e) (λ h is. prints e h is)
 
-closed_by_call-printed : (state : State) (lines : ℕ → List (List ℕ)) (call : Call) → AllPrint state lines → All (Printed state.host.kernel.past) (closed_by_call state lines call)
-closed_by_call-printed state lines (Close (closes.Endpoint e)) prints = closed_under-printed state lines (endpoint_place e) prints
-closed_by_call-printed state lines (Close (closes.Reader r)) prints = closed_under-printed state lines (reader_place r) prints
-closed_by_call-printed state lines (Close (closes.Writer w)) prints = closed_under-printed state lines (writer_place w) prints
+closed_by_call-printed : (state : State) (lines : EndpointName → List (List ℕ)) (call : Call) → AllPrint state lines → All (Printed state.host.kernel.past) (closed_by_call state lines call)
+closed_by_call-printed state lines (Close (closes.Endpoint e)) prints = closed_under-printed state lines (Own e) prints
+closed_by_call-printed state lines (Close (closes.Reader r)) prints = closed_under-printed state lines (OfReader r) prints
+closed_by_call-printed state lines (Close (closes.Writer w)) prints = closed_under-printed state lines (OfWriter w) prints
 closed_by_call-printed state lines call prints = All-nil (Printed state.host.kernel.past)
 
-closed_by-printed : (state : State) (lines : ℕ → List (List ℕ)) (item : Item) → AllPrint state lines → All (Printed state.host.kernel.past) (closed_by state lines item)
+closed_by-printed : (state : State) (lines : EndpointName → List (List ℕ)) (item : Item) → AllPrint state lines → All (Printed state.host.kernel.past) (closed_by state lines item)
 closed_by-printed state lines item prints =
     cond_both (bars_line state item) [] (closed_by_call state lines (call_of item)) (λ (xs : List ClosedEndpoint). All (Printed state.host.kernel.past) xs)
     (λ yes_. All-nil (Printed state.host.kernel.past)) (λ no_. closed_by_call-printed state lines (call_of item) prints)
 
 -- a close leaves what was printed of others
-closed_at-named : (state : State) (e d : ℕ) (g : Endpoint) (o : Option Endpoint) → named (closed_at state e o).endpoints d ≡ Some g → named state.endpoints d ≡ Some g
-closed_at-named state e d g None is = is
-closed_at-named state e d g (Some h) is =
-    elim (cases_eq d e) [
-      | inl same ↦ absurd (none-some g (sym (named-freed state.endpoints e) ∙ (ap (named (freed state.endpoints e)) (sym same) ∙ is)))
-      | inr apart ↦ sym (named-freed_other state.endpoints e d apart) ∙ is
-    ]
-
-closed-named : (state : State) (e d : ℕ) (g : Endpoint) → named (closed state e).endpoints d ≡ Some g → named state.endpoints d ≡ Some g
-unfolding closed
-closed-named state e d g is = closed_at-named state e d g (named state.endpoints e) is
-
-closed-prints : (state next : State) (e : ℕ) (lines : ℕ → List (List ℕ)) → next.endpoints ≡ (closed state e).endpoints → Extends state.host.kernel.past next.host.kernel.past → AllPrint state lines → AllPrint next lines
-closed-prints state next e lines same extends prints d g is unread =
-    let was = closed-named state e d g (sym (ap (λ (l : List (Option Endpoint)). named l d) same) ∙ is) in
-    prints-stay state.host.kernel.past next.host.kernel.past (taken_of g) (lines d) extends (prints d g was unread)
+closed-prints : (state next : State) (e : EndpointName) (lines : EndpointName → List (List ℕ)) → Changed (endpoint_under state) (endpoint_under next) e None → Extends state.host.kernel.past next.host.kernel.past → AllPrint state lines → AllPrint next lines
+closed-prints state next e lines gone extends prints d g is unread =
+    let was = changed-gone (endpoint_under state) (endpoint_under next) e d g gone is in
+    prints-stay state.host.kernel.past next.host.kernel.past (taken_of g) (lines d) extends (prints d g was.1 unread)
 
 -- and one more is closed
-closed-printed : (state next : State) (e : ℕ) (lines : ℕ → List (List ℕ)) (before : List ClosedEndpoint) → Extends state.host.kernel.past next.host.kernel.past → AllPrint state lines → All (Printed state.host.kernel.past) before
+closed-printed : (state next : State) (e : EndpointName) (lines : EndpointName → List (List ℕ)) (before : List ClosedEndpoint) → Extends state.host.kernel.past next.host.kernel.past → AllPrint state lines → All (Printed state.host.kernel.past) before
     → All (Printed next.host.kernel.past) (before ++ closed_under state lines e)
 closed-printed state next e lines before extends prints shut =
     let past = state.host.kernel.past in
     printed-on past next.host.kernel.past (before ++ closed_under state lines e) extends (All-append (Printed past) before (closed_under state lines e) shut (closed_under-printed state lines e prints))
 
 -- what was printed of those that are open, and of those that are closed
-record EndPrints (state : State) (lines : ℕ → List (List ℕ)) (shut : List ClosedEndpoint) : Type 0 where
+record EndPrints (state : State) (lines : EndpointName → List (List ℕ)) (shut : List ClosedEndpoint) : Type 0 where
   open_ : AllPrint state lines
   shut_ : All (Printed state.host.kernel.past) shut
 
-below-print : (act : State → ℕ → State) (place : ℕ → ℕ) → ClosesAt act place → Closing act place → (state : State) (lines : ℕ → List (List ℕ)) (k : ℕ) → Inv state → AllPrint state lines
-    → EndPrints (below act state k) lines (given_below act (λ s n. closed_under s lines (place n)) state k)
-below-print act place at closing state lines zero inv prints = record { open_ = prints; shut_ = All-nil (Printed state.host.kernel.past) }
-below-print act place at closing state lines (suc k) inv prints =
+below-print : (act : State → ℕ → State) (name : ℕ → EndpointName) → Shuts act name → Closing act name → (state : State) (lines : EndpointName → List (List ℕ)) (k : ℕ) → Inv state → AllPrint state lines
+    → EndPrints (below act state k) lines (given_below act (λ s n. closed_under s lines (name n)) state k)
+below-print act name shuts closing state lines zero inv prints = record { open_ = prints; shut_ = All-nil (Printed state.host.kernel.past) }
+below-print act name shuts closing state lines (suc k) inv prints =
     let mid = below act state k in
     let next = act mid k in
-    let before = given_below act (λ s n. closed_under s lines (place n)) state k in
-    let p = below-print act place at closing state lines k inv prints in
-    let extends = (acts-step tt (closing mid k lines) (below-step act place closing state lines k inv).inv).goes.past in
+    let before = given_below act (λ s n. closed_under s lines (name n)) state k in
+    let p = below-print act name shuts closing state lines k inv prints in
+    let extends = (acts-step tt (closing mid k lines) (below-step act name closing state lines k inv).inv).goes.past in
     record {
-      open_ = closed-prints mid next (place k) lines (at mid k) extends p.open_;
-      shut_ = closed-printed mid next (place k) lines before extends p.open_ p.shut_;
+      open_ = closed-prints mid next (name k) lines (shuts mid k) extends p.open_;
+      shut_ = closed-printed mid next (name k) lines before extends p.open_ p.shut_;
     }
 
-runs-print : (state : State) (lines : ℕ → List (List ℕ)) (items : List Item) → Inv state → AllPrint state lines → All (Printed (last_host state items).kernel.past) (closed_endpoints_from state lines items)
+runs-print : (state : State) (lines : EndpointName → List (List ℕ)) (items : List Item) → Inv state → AllPrint state lines → All (Printed (last_host state items).kernel.past) (closed_endpoints_from state lines items)
 unfolding ended all_closed
 runs-print state lines [] inv prints =
     let read = readers_closed state 64 in
@@ -314,9 +286,9 @@ runs-print state lines [] inv prints =
     let writers = writers-step read lines 64 readers.inv in
     let ends = ends-step written lines 64 writers.inv in
     let last = last-step mid ends.inv in
-    let first = below-print reader_closed reader_place reader_closed-at reader_closed-does state lines 64 inv prints in
-    let second = below-print writer_closed writer_place writer_closed-at writer_closed-does read lines 64 readers.inv first.open_ in
-    let third = below-print closed (λ e. e) (λ s e. refl) closed-does written lines 64 writers.inv second.open_ in
+    let first = below-print reader_closed OfReader reader_closed-shuts reader_closed-does state lines 64 inv prints in
+    let second = below-print writer_closed OfWriter writer_closed-shuts writer_closed-does read lines 64 readers.inv first.open_ in
+    let third = below-print closed Own closed-shuts closed-does written lines 64 writers.inv second.open_ in
     let past = (ended state).kernel.past in
     All-append (Printed past) (read_at_end state lines 64 ++ written_at_end read lines 64) (closed_at_end written lines 64)
     (All-append (Printed past) (read_at_end state lines 64) (written_at_end read lines 64)
@@ -331,12 +303,11 @@ runs-print state lines (item ∷ items) inv prints =
     (printed-on state.host.kernel.past last (closed_by state lines item) (runs state lines (item ∷ items) inv).goes.past (closed_by-printed state lines item prints))
     (runs-print a.state (lines_behind state a lines) items over.inv (all-print state a lines over.goes.past prints (answer-takes state item inv)))
 
-none-print : (items : List Item) (lines : ℕ → List (List ℕ)) → AllPrint (start items) lines
-unfolding start
-none-print items lines e h is unread = absurd (none-some h (sym (named-replicate 192 e) ∙ is))
+none-print : (items : List Item) (lines : EndpointName → List (List ℕ)) → AllPrint (start items) lines
+none-print items lines e h is unread = absurd (none-some h (sym (none-start items e) ∙ is))
 
 -- each ticket of the last host stands once
-handles-once : (state : State) (lines : ℕ → List (List ℕ)) (items : List Item) (t : ℕ) → times_open t state.endpoints ≡ 0 → tickets_of state ≡ 0 → Runs state lines items → t < length (last_host state items).tickets → count_by (λ u. u == t) (tickets_of_all (closed_endpoints_from state lines items) ++ control_tickets_from state items) ≡ 1
+handles-once : (state : State) (lines : EndpointName → List (List ℕ)) (items : List Item) (t : ℕ) → times_open t state ≡ 0 → tickets_of state ≡ 0 → Runs state lines items → t < length (last_host state items).tickets → count_by (λ u. u == t) (tickets_of_all (closed_endpoints_from state lines items) ++ control_tickets_from state items) ≡ 1
 handles-once state lines items t none few run within =
     let all = run.adds t in
     let before : among t (tickets_of state) ≡ 0 = ap (among t) few in
@@ -359,12 +330,12 @@ served-one last c ends closes printed =
 pub served-handles : EndpointsAreServedInOrder
 unfolding closed_endpoints control_tickets final_host
 served-handles items ends =
-    let lines : ℕ → List (List ℕ) = λ e. [] in
+    let lines : EndpointName → List (List ℕ) = λ e. [] in
     let run = runs (start items) lines items (inv-start items) in
     let prints = runs-print (start items) lines items (inv-start items) (none-print items lines) in
     record {
       served = λ k d below. served-one (last_host (start items) items) _ ends (run.closes k d below) (λ unread. (prints k d below unread).are);
-      once = λ t within. let none = nothing-open items t in handles-once (start items) lines items t none.0 none.1 run within;
+      once = λ t within. handles-once (start items) lines items t (nothing-open items t) (no-tickets_start items).1 run within;
     }
 
 -- the host has as many tickets as the journal

@@ -21,7 +21,6 @@ pub mod ClaimCode
 pub mod OrderLemmas
 pub mod PlaceLemmas
 pub mod PrintLemmas
-pub mod ReaderCalled
 pub mod ReaderMoves
 pub mod ReaderDoes
 pub mod RunLemmas
@@ -63,7 +62,6 @@ pub mod WorkedPrinted
 pub mod HandedReaders
 pub mod HandedScripts
 pub mod WorkedHanded
-pub mod WriterCalled
 pub mod Lent
 pub mod TakenOut
 pub mod KeptNames

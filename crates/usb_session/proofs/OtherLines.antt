@@ -6,12 +6,8 @@ use Rattle.usb_desc.specs.declared.types.Direction.{Direction}
 use Rattle.usb_desc.specs.declared.types.TransferType.{TransferType}
 use Rattle.usb_xfer.specs.declared.transfer.Completion.{Completion}
 use Rattle.usb_xfer.specs.declared.transfer.TransferData.{TransferData}
-use Rattle.usb_xfer.specs.declared.error.TransferError.{TransferError}
-use Rattle.usb_error.specs.ErrorState.{ErrorState}
 use Rattle.usb_error.specs.Errors.{interface_in_use_error}
-use Rattle.usb_enum_sysfs.specs.declared.sysfs.SysfsError.{SysfsError}
-use Rattle.usb_enum.specs.Buses.{BusFacts, buses}
-use Rattle.usb_enum.specs.Devices.{DeviceFacts}
+use Rattle.usb_enum.specs.Buses.{buses}
 use Rattle.usb_enum.specs.Listing.{devices}
 use Rattle.usb_enum.specs.Probing.{probe}
 use Rattle.usb_session_tree.specs.Selecting.{matched}
@@ -23,7 +19,7 @@ use Rattle.usb_device_host.specs.Opens.{host_opened, open_key}
 use Rattle.usb_device_host.specs.InterfaceClaims.{claim_tried, claimed_key, host_claimed}
 use Rattle.usb_device_host.specs.EndpointOpens.{host_asked, host_tries}
 use Rattle.usb_device_host.specs.HostCalls.{host_calls}
-use Rattle.usb_device.specs.Futures.{FutureState, future_answer}
+use Rattle.usb_device.specs.Futures.{future_answer}
 use Rattle.usb_kernel.specs.TransferCompletions.{transfer_completion}
 use Rattle.usb_session_text.specs.Completions.{polled_line, waited_line}
 use Rattle.usb_session_calls.specs.Names.{named, is_free}
@@ -100,59 +96,40 @@ free-leaves state free call leaves = free-keeps (Leaves state) state (refl, refl
 bar-leaves : (state : State) (bars : Bool) (call : Answer) → Leaves state call.state → Leaves state (if bars then condition_answer state else call).state
 bar-leaves state bars call leaves = bar-keeps (Leaves state) state (refl, refl) bars call leaves
 
+-- one whose answer depends on a result, and one on what there may be
+result-leaves : {X E : Type 0} (state : State) (r : Result X E) (call : Result X E → Answer) → ((x : X) → Leaves state (call (Ok x)).state) → ((error : E) → Leaves state (call (Err error)).state) → Leaves state (call r).state
+result-leaves state (Ok x) call done refused = done x
+result-leaves state (Err error) call done refused = refused error
+
+option-leaves : {X : Type 0} (state : State) (o : Option X) (call : Option X → Answer) → Leaves state (call None).state → ((x : X) → Leaves state (call (Some x)).state) → Leaves state (call o).state
+option-leaves state None call none some = none
+option-leaves state (Some x) call none some = some x
+
 -- what is asked of the tree of attributes and of the packets of udev
-listed-leaves : (state : State) (r : Result (List DeviceFacts) ErrorState) → Leaves state (listed state r).state
-listed-leaves state (Ok found) = (refl, refl)
-listed-leaves state (Err error) = (refl, refl)
-
-listed_buses-leaves : (state : State) (r : Result (List BusFacts) ErrorState) → Leaves state (listed_buses state r).state
-listed_buses-leaves state (Ok found) = (refl, refl)
-listed_buses-leaves state (Err error) = (refl, refl)
-
-probed-leaves : (state : State) (r : Result DeviceFacts SysfsError) → Leaves state (probed state r).state
-probed-leaves state (Ok device) = (refl, refl)
-probed-leaves state (Err error) = (refl, refl)
-
-looked_for-leaves : (state : State) (r : Result Bool SysfsError) → Leaves state (looked_for state r).state
-looked_for-leaves state (Ok is_match) = (refl, refl)
-looked_for-leaves state (Err error) = (refl, refl)
-
 tree-leaves : (state : State) (call : TreeCall) → Leaves state (on_tree state call).state
 unfolding list_answer buses_answer probe_answer match_answer hotplug_answer
-tree-leaves state trees.List = listed-leaves state (devices state.tree)
-tree-leaves state trees.Buses = listed_buses-leaves state (buses state.tree)
-tree-leaves state (trees.Probe path) = probed-leaves state (probe state.tree path)
-tree-leaves state (trees.Match path selector) = looked_for-leaves state (matched state.tree path selector)
+tree-leaves state trees.List = result-leaves state (devices state.tree) (listed state) (λ found. (refl, refl)) (λ error. (refl, refl))
+tree-leaves state trees.Buses = result-leaves state (buses state.tree) (listed_buses state) (λ found. (refl, refl)) (λ error. (refl, refl))
+tree-leaves state (trees.Probe path) = result-leaves state (probe state.tree path) (probed state) (λ device. (refl, refl)) (λ error. (refl, refl))
+tree-leaves state (trees.Match path selector) = result-leaves state (matched state.tree path selector) (looked_for state) (λ is_match. (refl, refl)) (λ error. (refl, refl))
 tree-leaves state trees.Hotplug = (refl, refl)
 
 -- what is opened
-opened_as-leaves : (state : State) (d : ℕ) (r : Result ℕ ErrorState) → Leaves state (opened_as state d r).state
-opened_as-leaves state d (Ok key) = (refl, refl)
-opened_as-leaves state d (Err error) = (refl, refl)
-
 opened_at-leaves : (state : State) (d bus address : ℕ) → Leaves state (opened_at state d bus address).state
-opened_at-leaves state d bus address = opened_as-leaves (with_host state (host_opened state.host bus address)) d (open_key state.host bus address)
-
-opened_probed-leaves : (state : State) (d : ℕ) (r : Result DeviceFacts SysfsError) → Leaves state (opened_probed state d r).state
-opened_probed-leaves state d (Ok device) = opened_at-leaves state d device.numbers.busnum device.numbers.address
-opened_probed-leaves state d (Err error) = (refl, refl)
-
-claimed_as-leaves : (state : State) (number i : ℕ) (r : Result ℕ ErrorState) → Leaves state (claimed_as state number i r).state
-claimed_as-leaves state number i (Ok key) = (refl, refl)
-claimed_as-leaves state number i (Err error) = (refl, refl)
+opened_at-leaves state d bus address =
+    result-leaves state (open_key state.host bus address) (opened_as (with_host state (host_opened state.host bus address)) d) (λ key. (refl, refl)) (λ error. (refl, refl))
 
 claim-leaves : (state : State) (number i : ℕ) (reattach : Bool) (x : DeviceAt) → Leaves state (claim_on state number i reattach x).state
 claim-leaves state number i reattach x =
-    free-leaves state _ _ (claimed_as-leaves (with_host state (host_claimed state.host x.key number reattach)) number i (claimed_key (length state.host.interfaces) (claim_tried state.host x.opened number reattach)))
-
-endpoint_as-leaves : (state : State) (e address : ℕ) (kind : TransferType) (x : InterfaceAt) (r : Result ℕ ErrorState) → Leaves state (endpoint_as state e address kind x r).state
-endpoint_as-leaves state e address kind x (Err error) = (refl, refl)
-endpoint_as-leaves state e address kind x (Ok maximum) = (refl, refl)
+    let host = host_claimed state.host x.key number reattach in
+    let tried = claimed_key (length state.host.interfaces) (claim_tried state.host x.opened number reattach) in
+    free-leaves state _ _ (result-leaves state tried (claimed_as (with_host state host) number i) (λ key. (refl, refl)) (λ error. (refl, refl)))
 
 endpoint_on-leaves : (state : State) (e address : ℕ) (kind : TransferType) (direction : Direction) (x : InterfaceAt) → Leaves state (endpoint_on state e address kind direction x).state
 endpoint_on-leaves state e address kind direction x =
     let host = host_asked state.host x.claimed.opened in
-    free-leaves state _ _ (endpoint_as-leaves (with_host state host) e address kind x (host_tries host x.handle.key x.claimed address kind direction))
+    let tried = host_tries host x.handle.key x.claimed address kind direction in
+    free-leaves state _ _ (result-leaves state tried (endpoint_as (with_host state host) e address kind x) (λ maximum. (refl, refl)) (λ error. (refl, refl)))
 
 start-leaves : (state : State) (n : ℕ) (target : ControlTarget) (request : TransferData) (timeout : ℕ) → Leaves state (start_answer state n target request timeout).state
 unfolding start_answer
@@ -164,7 +141,8 @@ start-leaves state n target request timeout =
 open-leaves : (state : State) (call : OpenCall) → is_streamed (families.Open call) ≡ false → Leaves state (on_open state call).state
 unfolding open_answer open_path_answer clone_device_answer claim_answer clone_interface_answer endpoint_answer
 open-leaves state (opens.Device d bus address) is = free-leaves state _ _ (opened_at-leaves state d bus address)
-open-leaves state (opens.Path d path) is = free-leaves state _ _ (opened_probed-leaves state d (probe state.tree path))
+open-leaves state (opens.Path d path) is =
+    free-leaves state _ _ (result-leaves state (probe state.tree path) (opened_probed state d) (λ device. opened_at-leaves state d device.numbers.busnum device.numbers.address) (λ error. (refl, refl)))
 open-leaves state (opens.CloneDevice name d) is = on-leaves state (named state.devices d) _ (λ key. free-leaves state _ _ (refl, refl))
 open-leaves state (opens.Claim d number i detach) is = on-leaves state (device_at state d) (claim_on state number i detach) (claim-leaves state number i detach)
 open-leaves state (opens.CloneInterface name i) is = on-leaves state (named state.interfaces i) _ (λ f. free-leaves state _ _ (refl, refl))
@@ -198,24 +176,14 @@ unfolding on_interface
 interface-leaves state i call = on-leaves state (interface_at state i) _ (λ x. (refl, refl))
 
 -- calls on endpoints
-took-leaves : (line : Option Completion → List ℕ) (state : State) (e t : ℕ) (o : Option Completion) → Leaves state (took line state e t o).state
-took-leaves line state e t None = (refl, refl)
-took-leaves line state e t (Some c) = (refl, refl)
-
-poll_on-leaves : (state : State) (e : ℕ) (o : Option ℕ) → Leaves state (poll_on state e o).state
-poll_on-leaves state e None = (refl, refl)
-poll_on-leaves state e (Some t) = took-leaves polled_line state e t (transfer_completion state.host.kernel.past t)
-
-wait_on-leaves : (state : State) (e timeout : ℕ) (o : Option ℕ) → Leaves state (wait_on state e timeout o).state
-wait_on-leaves state e timeout None = (refl, refl)
-wait_on-leaves state e timeout (Some t) =
-    let mid = waited host_calls t timeout state.host in
-    took-leaves waited_line (with_host state mid) e t (transfer_completion mid.kernel.past t)
+took-leaves : (line : Option Completion → List ℕ) (state : State) (e t : ℕ) → Leaves state (took line state e t (transfer_completion state.host.kernel.past t)).state
+took-leaves line state e t = option-leaves state (transfer_completion state.host.kernel.past t) (took line state e t) (refl, refl) (λ c. (refl, refl))
 
 called-leaves : (call : EndpointCall) (state : State) (e : ℕ) (h : Endpoint) → Leaves state (endpoint_called call state e h).state
 called-leaves endpoints.Pending state e h = (refl, refl)
-called-leaves endpoints.Poll state e h = poll_on-leaves state e (slice_get h.tickets h.taken)
-called-leaves (endpoints.Wait timeout) state e h = wait_on-leaves state e timeout (slice_get h.tickets h.taken)
+called-leaves endpoints.Poll state e h = option-leaves state (slice_get h.tickets h.taken) (poll_on state e) (refl, refl) (took-leaves polled_line state e)
+called-leaves (endpoints.Wait timeout) state e h =
+    option-leaves state (slice_get h.tickets h.taken) (wait_on state e timeout) (refl, refl) (λ t. took-leaves waited_line (with_host state (waited host_calls t timeout state.host)) e t)
 called-leaves endpoints.Cancel state e h = (refl, refl)
 called-leaves endpoints.ClearHalt state e h = (refl, refl)
 called-leaves call state e h = bar-leaves state _ _ (refl, refl)
@@ -229,13 +197,9 @@ control-leaves : (state : State) (call : ControlCall) → Leaves state (on_contr
 unfolding on_control
 control-leaves state call = on-leaves state (device_of_target state (target_of call)) (control_on call state) (λ n. bar-leaves state _ _ (refl, refl))
 
-future_polled-leaves : (state : State) (n : ℕ) (f : FutureState) (o : Option (Result (List ℕ) TransferError)) → Leaves state (future_polled state n f o).state
-future_polled-leaves state n f None = (refl, refl)
-future_polled-leaves state n f (Some r) = (refl, refl)
-
 future-leaves : (state : State) (n : ℕ) (call : FutureCall) → Leaves state (on_future state n call).state
 unfolding on_future
-future-leaves state n futures.Poll = on-leaves state (named state.futures n) _ (λ f. future_polled-leaves state n f (future_answer state.host f))
+future-leaves state n futures.Poll = on-leaves state (named state.futures n) _ (λ f. option-leaves state (future_answer state.host f) (future_polled state n f) (refl, refl) (λ r. (refl, refl)))
 future-leaves state n (futures.Wait steps) = let now = with_steps state steps in on-leaves now (named now.futures n) (future_waited now n) (λ f. (refl, refl))
 
 -- each call that is neither a reader's nor a writer's

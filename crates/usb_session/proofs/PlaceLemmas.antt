@@ -4,7 +4,6 @@ use Rattle.usb_xfer.specs.declared.transfer.Completion.{Completion}
 use Rattle.usb_kernel.specs.TransferCompletions.{transfer_completion}
 use Rattle.usb_session_text.specs.Completions.{polled_line}
 use Rattle.usb_session_calls.specs.State.{State}
-use Rattle.usb_session_calls.specs.ReaderAt.{endpoint_place}
 use Rattle.usb_session_calls.specs.Polls.{took}
 use Rattle.usb_session_calls.specs.Steps.{with_steps}
 use Rattle.usb_session_calls.specs.Calls.{call_of}
@@ -21,7 +20,7 @@ took-line state e t (Some c) = refl
 pub polls-for_their_place : PollsAnswerForTheirPlace
 unfolding answer call_of call_answer on_endpoint
 polls-for_their_place state e h t free is at =
-    rw (free, is, at) (took-line (with_steps state []) (endpoint_place e) t (transfer_completion state.host.kernel.past t))
+    rw (free, is, at) (took-line (with_steps state []) e t (transfer_completion state.host.kernel.past t))
 
 -- so in each script
 pub polls-of_scripts : PollsOfScriptsAnswer

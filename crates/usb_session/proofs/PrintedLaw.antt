@@ -1,33 +1,30 @@
 -- What lines print of the tickets that they take.
-use Rattle.std.proofs.Common.{◌≡◌, ℕ, ◌+◌, List, [], Option, Some, refl, ap, sym, ◌∙◌, subst, slice_get}
-use Rattle.std.specs.Option.{option_map}
+use Rattle.std.proofs.Common.{◌≡◌, ℕ, ◌+◌, List, [], Option, Some, refl, ap, sym, ◌∙◌, slice_get}
 use Rattle.usb_xfer.specs.declared.transfer.Completion.{Completion}
 use Rattle.usb_kernel.specs.declared.event.Event.{Event}
 use Rattle.usb_kernel.specs.Extends.{Extends}
 use Rattle.usb_kernel.specs.TransferCompletions.{transfer_completion}
-use Rattle.usb_device_host.proofs.FollowLemmas.{taken-past}
+use Rattle.usb_device_host.specs.TicketEnds.{host_taken}
 use Rattle.usb_session_text.specs.Completions.{done_line}
-use Rattle.usb_session_calls.specs.Names.{named, set_name}
-use Rattle.usb_session_calls.proofs.NameLemmas.{named-change_same, named-change_other}
-use Rattle.usb_session_calls.specs.State.{State, Endpoint, with_host}
+use Rattle.usb_session_calls.specs.EndpointNames.{EndpointName, Own, endpoint_under}
+use Rattle.usb_session_calls.specs.State.{State, Endpoint, tickets_of, with_host}
 use Rattle.usb_session_calls.specs.Answer.{Answer}
-use Rattle.usb_session_calls.specs.Submits.{submitted}
-use Rattle.usb_session_calls.specs.Polls.{one_taken, taken_from}
+use Rattle.usb_session_calls.specs.Polls.{one_taken}
 use Rattle.usb_session.specs.Futures.{with_future}
 use Rattle.usb_session.specs.Output.{start, behind, final_host}
 use Rattle.usb_session.specs.Served.{ClosedEndpoint, taken_under}
 use Rattle.usb_session.specs.Printed.{TookAndPrinted, ScriptsPrintCompletions}
-use Rattle.usb_session.proofs.Does.{Quiet, ControlMove, Acts, without_future_of, goes, opens, submits, fits, reads, starts, controls, frees, ends, takes, closes, moves}
+use Rattle.usb_session.proofs.Does.{Quiet, Changes, ControlMove, Acts, without_future_of, goes, opens, submits, fits, reads, starts, controls, frees, ends, takes, closes, moves}
 use Rattle.usb_session.proofs.EveryLine.{answer-does}
 use Rattle.usb_session.proofs.PrintLemmas.{transfer-stays, count-under}
 use Rattle.usb_session.proofs.StepLemmas.{few-taken}
-use Rattle.usb_session.proofs.TakeLemmas.{TakesNone, taken_by, none-quiet, none-same, none-opened, none-submitted, not-done}
+use Rattle.usb_session.proofs.TakeLemmas.{TakesNone, taken_by, none-quiet, none-same, none-opened, none-submitted, take-extends, not-done}
 use Rattle.usb_session.proofs.HandleLemmas.{inv-of, goes-last}
 
 -- what was taken before is as much
-took-before : (last : List Event) (few : Type 0) (old new : State) (a : Answer) → ((d : ℕ) → TakesNone few old new d) → TookAndPrinted last new a → TookAndPrinted last old a
+took-before : (last : List Event) (few : Type 0) (old new : State) (a : Answer) → ((d : EndpointName) → TakesNone few old new d) → TookAndPrinted last new a → TookAndPrinted last old a
 took-before last few old new a before p =
-    let same : (d : ℕ) → taken_under new d ≡ taken_under old d = λ d. (before d).count in
+    let same : (d : EndpointName) → taken_under new d ≡ taken_under old d = λ d. (before d).count in
     record {
       name = p.name;
       entry = p.entry;
@@ -42,9 +39,9 @@ took-before last few old new a before p =
     }
 
 -- the ticket at the place of those that were taken is taken, and its completion printed
-took-now : (last : List Event) (a : Answer) (state : State) (e t : ℕ) (h : Endpoint) (c : Completion) → named state.endpoints e ≡ Some h → slice_get h.tickets h.taken ≡ Some t → transfer_completion state.host.kernel.past t ≡ Some c → a.line ≡ done_line c → Quiet (taken_from state e t) a.state
-    → Extends a.state.host.kernel.past last → TookAndPrinted last state a
-took-now last a state e t h c here front came line quiet goes_on =
+took-now : {next : State} (last : List Event) (a : Answer) (state : State) (e : EndpointName) (t : ℕ) (h : Endpoint) (c : Completion) → endpoint_under state e ≡ Some h → slice_get h.tickets h.taken ≡ Some t → transfer_completion state.host.kernel.past t ≡ Some c → a.line ≡ done_line c
+    → Changes state next (host_taken state.host t) e (Some (one_taken h)) → Quiet next a.state → Extends a.state.host.kernel.past last → TookAndPrinted last state a
+took-now last a state e t h c here front came line changes quiet goes_on =
     let past = a.state.host.kernel.past in
     let count = count-under state e h here in
     record {
@@ -52,27 +49,27 @@ took-now last a state e t h c here front came line quiet goes_on =
       entry = one_taken h;
       ticket = t;
       completion = c;
-      open_behind = ap (λ (l : List (Option Endpoint)). named l e) quiet.endpoints ∙ (named-change_same one_taken state.endpoints e ∙ ap (option_map one_taken) here);
+      open_behind = quiet.endpoints e ∙ changes.endpoints.here;
       one_more = ap (λ n. n + 1) (sym count);
-      others = λ d apart. ap (λ (l : List (Option Endpoint)). taken_by (named l d)) quiet.endpoints ∙ ap taken_by (named-change_other one_taken state.endpoints e d apart);
+      others = λ d apart. ap taken_by (quiet.endpoints d ∙ changes.endpoints.others d apart);
       taken = ap (slice_get h.tickets) count ∙ front;
-      came = transfer-stays past last t c goes_on (transfer-stays state.host.kernel.past past t c (subst (λ p. Extends p past) (taken-past state.host t) quiet.keeps.past) came);
+      came = transfer-stays past last t c goes_on (transfer-stays state.host.kernel.past past t c (take-extends t changes quiet) came);
       printed = line;
     }
 
 acts-printed : {few : Type 0} {a : Answer} {state : State} {closed : List ClosedEndpoint} {handed : List ControlMove} (last : List Event) → few → Extends a.state.host.kernel.past last → Acts few a state closed handed → (c : Completion) → a.line ≡ done_line c → TookAndPrinted last state a
 acts-printed {few} {a} {state} last fit on (goes {next = mid} quiet rest) c is = took-before last few state mid a (λ d. none-quiet d quiet) (acts-printed last fit on rest c is)
 acts-printed {a} last fit on (fits other rest) c is = absurd (not-done a.line c other is)
-acts-printed {a} last fit on (reads e t h above here front other rest) c is = absurd (not-done a.line c other is)
-acts-printed {a} last fit on (moves from to h g here free same read other quiet) c is = absurd (not-done a.line c other is)
-acts-printed {few} {a} {state} last fit on (opens e x free empty zero_ outside rest) c is = took-before last few state (record state { endpoints = set_name state.endpoints e x }) a (none-opened state e x free zero_) (acts-printed last fit on rest c is)
-acts-printed {few} {a} {state} last fit on (submits e b h here within rest) c is = took-before last few state (submitted state e b h) a (none-submitted state e b h here within) (acts-printed last fit on rest c is)
+acts-printed {a} last fit on (reads e t h stream here front other changes rest) c is = absurd (not-done a.line c other is)
+acts-printed {a} last fit on (moves from to h g here free same read other moved quiet) c is = absurd (not-done a.line c other is)
+acts-printed {few} {a} {state} last fit on (opens {next = mid} e x free empty zero_ changes rest) c is = took-before last few state mid a (none-opened (Own e) x free zero_ changes) (acts-printed last fit on rest c is)
+acts-printed {few} {a} {state} last fit on (submits {next = mid} e b h here within changes rest) c is = took-before last few state mid a (none-submitted e (tickets_of state) h here within changes) (acts-printed last fit on rest c is)
 acts-printed {few} {a} {state} last fit on (starts n request timeout device free rest) c is = took-before last few state (with_future state n request timeout device) a (λ d. none-same state (with_future state n request timeout device) d refl) (acts-printed last fit on rest c is)
 acts-printed {few} {a} {state} last fit on (controls host one adds rest) c is = took-before last few state (with_host state host) a (λ d. none-same state (with_host state host) d refl) (acts-printed last fit on rest c is)
 acts-printed {few} {a} {state} last fit on (frees n f host here parts rest) c is = took-before last few state (without_future_of state host n) a (λ d. none-same state (without_future_of state host n) d refl) (acts-printed last fit on rest c is)
 acts-printed {a} last fit on (ends other quiet) c is = absurd (not-done a.line c other is)
-acts-printed {a} {state} last fit on (takes e t h c here front came line quiet) _ is = took-now last a state e t h c here (front fit) came line quiet on
-acts-printed {a} last fit on (closes e h lines here other quiet) c is = absurd (not-done a.line c other is)
+acts-printed {a} {state} last fit on (takes e t h c here front came line changes quiet) _ is = took-now last a state e t h c here (front fit) came line changes quiet on
+acts-printed {a} last fit on (closes e h lines here other changes quiet) c is = absurd (not-done a.line c other is)
 
 pub scripts-print : ScriptsPrintCompletions
 scripts-print items before after item c is line =

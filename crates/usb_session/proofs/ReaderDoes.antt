@@ -25,7 +25,7 @@ use Rattle.usb_session_calls.specs.CalledReaders.{reader_called, on_reader}
 use Rattle.usb_session_calls.specs.State.{State, Reader, tickets_at, endpoint_of_reader, tickets_of, with_host}
 use Rattle.usb_session_calls.specs.EndpointNames.{EndpointName, Own, OfReader, OfWriter, endpoint_under}
 use Rattle.usb_session_calls.proofs.NameLemmas.{free-none, length-change_named}
-use Rattle.usb_session_calls.proofs.EndpointNameLemmas.{set-changes, freed-changes, change-changes}
+use Rattle.usb_session_calls.proofs.EndpointNameLemmas.{Changed, set-changes, freed-changes, change-changes}
 use Rattle.usb_session_calls.specs.Readers.{nothing_consumed, with_none, taken_by_call, with_reader, reader_answer, without_reader, inner_answer, called, with_count, num_on, closed_reader, reader_closed_at, reader_closed, close_reader_answer}
 use Rattle.usb_session_streams.specs.ReaderCalls.{given_by}
 use Rattle.usb_session_calls.specs.Reads.{is_until_short, consumed_with, given_line, polled_given_line, bars_read, read_as, filled_as, read_on, fill_on, read_off}
@@ -33,7 +33,7 @@ use Rattle.usb_session_calls.specs.Answer.{Answer, answer_with, condition_answer
 use Rattle.usb_device_endpoint.specs.Closes.{after_close}
 use Rattle.usb_session.specs.Served.{closed_under}
 use Rattle.usb_session.proofs.CallLeads.{Leads, leads-start, leads-send, leads-wait, leads-take, called-acts}
-use Rattle.usb_session.proofs.Does.{Acts, Changes, Quiet, Does, says_done, ends, moves, kept-change, own-changes, reader-changes, quiet-aside, quiet-same, told-does, named-does, closing-does, free-does, bar-does}
+use Rattle.usb_session.proofs.Does.{Shuts, Acts, Changes, Quiet, Does, says_done, ends, moves, kept-change, own-changes, reader-changes, quiet-aside, quiet-same, told-does, named-does, closing-does, free-does, bar-does}
 
 -- a reader is made of an endpoint, and the endpoint comes back
 pub reader-does : (state : State) (r e size : ℕ) → Does state (reader_answer state r e size)
@@ -73,6 +73,14 @@ unfolding reader_closed
 reader_closed-does state r lines =
     closing-does state (OfReader r) lines (named state.readers r) endpoint_of_reader (λ o. silent (reader_closed_at state r o)) (closed_reader state r) refl refl (quiet-same state) (λ x. refl)
     (λ x is. closed-changes state r x) (λ x. quiet-same (closed_reader state r x))
+
+pub reader_closed-shuts : Shuts reader_closed OfReader
+unfolding reader_closed
+reader_closed-shuts state n = by (named state.readers n) refl
+  where
+    by : (o : Option Reader) → named state.readers n ≡ o → Changed (endpoint_under state) (endpoint_under (reader_closed_at state n o)) (OfReader n) None
+    by None is = record { here = ap (option_map endpoint_of_reader) is; others = λ d apart. refl }
+    by (Some x) is = (closed-changes state n x).endpoints
 
 pub close_reader-does : (state : State) (r : ℕ) (lines : EndpointName → List (List ℕ)) → Acts (close_reader_answer state r) state (closed_under state lines (OfReader r)) []
 unfolding close_reader_answer

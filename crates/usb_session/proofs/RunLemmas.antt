@@ -2,7 +2,7 @@
 use Rattle.std.proofs.Common.{◌≡◌, ℕ, ◌≤◌, arith, List, [], ◌++◌, length, map, replicate, Option, Some, None, true, false, refl, ap, sym, ◌∙◌, subst}
 use Rattle.std.specs.Prelude.{max}
 use Rattle.std.specs.Option.{option_map}
-use Rattle.std.proofs.lemmas.List.{length-replicate, replicate-append-replicate}
+use Rattle.std.proofs.lemmas.List.{length-replicate}
 use Rattle.std.proofs.lemmas.Option.{none-some}
 use Rattle.usb_device_tables.specs.History.{value_at}
 use Rattle.usb_kernel_devices.specs.declared.devices.SimDevice.{SimDevice}
@@ -23,14 +23,13 @@ use Rattle.usb_script_lines.specs.ItemKinds.{place_count}
 use Rattle.usb_session_calls.specs.Names.{named}
 use Rattle.usb_io.specs.Readers.{ReaderState}
 use Rattle.usb_io.specs.Writers.{WriterState}
-use Rattle.usb_session_calls.specs.BareReaders.{BareReader}
-use Rattle.usb_session_calls.specs.BareWriters.{BareWriter}
-use Rattle.usb_session_calls.specs.State.{Endpoint, Reader, Writer, endpoint_state}
+use Rattle.usb_session_calls.specs.EndpointNames.{EndpointName, Own, OfReader, OfWriter, held_under, endpoint_under}
+use Rattle.usb_session_calls.specs.State.{Endpoint, Reader, Writer}
 use Rattle.usb_session.specs.Output.{devices_of, start}
-use Rattle.usb_session_calls.specs.SessionState.{SessionState, IsSound}
-use Rattle.usb_session_calls.specs.SessionParts.{session_made, endpoint_of, bare_reader_of, writer_endpoint, bare_writer_of, endpoints_with}
+use Rattle.usb_session_calls.specs.SessionState.{SessionState, IsSound, open_under}
+use Rattle.usb_session_calls.specs.SessionParts.{session_made}
 use Rattle.usb_session_calls.specs.Relation.{Represents, session_of}
-use Rattle.usb_session_calls.proofs.NameLemmas.{named-replicate, map-replicate}
+use Rattle.usb_session_calls.proofs.NameLemmas.{named-replicate}
 
 -- the host at the beginning
 larger : (a b : ℕ) → a ≡ 0 → max a b ≡ b
@@ -47,9 +46,25 @@ host-start k now items devices places past known are clock armed none rest spare
 nobody : {X : Type 0} (n e : ℕ) (x : X) → named (replicate n None) e ≡ Some x → ⊥
 nobody {X} n e x is = none-some x (sym (named-replicate n e) ∙ is)
 
+none-held : {E R W : Type 0} (of_reader : R → E) (of_writer : W → E) (n : ℕ) (e : EndpointName) → held_under of_reader of_writer (replicate n None) (replicate n None) (replicate n None) e ≡ None
+none-held of_reader of_writer n (Own e) = named-replicate n e
+none-held of_reader of_writer n (OfReader r) = ap (option_map of_reader) (named-replicate n r)
+none-held of_reader of_writer n (OfWriter w) = ap (option_map of_writer) (named-replicate n w)
+
+pub none-start : (items : List Item) (e : EndpointName) → endpoint_under (start items) e ≡ None
+unfolding start
+none-start items e = none-held (λ (x : Reader). x.endpoint) (λ (x : Writer). x.endpoint) 64 e
+
+pub no-future_start : (items : List Item) (n : ℕ) → named (start items).futures n ≡ None
+unfolding start
+no-future_start items n = named-replicate 64 n
+
 -- a session with nothing open
 abbrev pub empty_session : Tree → List UdevPacket → HostState → SessionState
-empty_session t p host = record { host = host; devices = replicate 64 None; interfaces = replicate 64 None; endpoints = replicate 192 None; readers = replicate 64 None; writers = replicate 64 None; futures = replicate 64 None; tree = t; packets = p }
+empty_session t p host = session_made t p host (replicate 64 None) (replicate 64 None) (replicate 64 None) (replicate 64 None) (replicate 64 None) (replicate 64 None)
+
+none-under : (t : Tree) (p : List UdevPacket) (host : HostState) (e : EndpointName) (h : EndpointState) → open_under (empty_session t p host) e ≡ Some h → ⊥
+none-under t p host e h is = none-some h (sym (none-held (λ (x : ReaderState). x.endpoint) (λ (x : WriterState). x.endpoint) 64 e) ∙ is)
 
 empty-sound : (t : Tree) (p : List UdevPacket) (host : HostState) → host.steps ≡ [] → host.interfaces ≡ [] → host.devices ≡ [] → host.endpoints ≡ [] → IsSound (empty_session t p host)
 empty-sound t p host idle none nothing closed =
@@ -57,9 +72,9 @@ empty-sound t p host idle none nothing closed =
       idle = idle;
       device_names = length-replicate {A = Option ℕ} 64 None;
       interface_names = length-replicate {A = Option InterfaceState} 64 None;
-      endpoint_names = length-replicate {A = Option EndpointState} 192 None;
-      reader_names = length-replicate {A = Option BareReader} 64 None;
-      writer_names = length-replicate {A = Option BareWriter} 64 None;
+      endpoint_names = length-replicate {A = Option EndpointState} 64 None;
+      reader_names = length-replicate {A = Option ReaderState} 64 None;
+      writer_names = length-replicate {A = Option WriterState} 64 None;
       devices_stand = λ d key is. absurd (nobody 64 d key is);
       devices_counted = λ key o at. absurd (none-some o (sym (ap (λ ds. value_at ds key) nothing) ∙ at));
       devices_held = record {
@@ -69,9 +84,9 @@ empty-sound t p host idle none nothing closed =
       };
       interfaces_stand = λ i f is. absurd (nobody 64 i f is);
       interfaces_counted = λ key c at. absurd (none-some c (sym (ap (λ (l : List (Option ClaimedInterface)). value_at l key) none) ∙ at));
-      endpoints_stand = λ e h is. absurd (nobody 192 e h is);
-      endpoints_small = λ e h is. absurd (nobody 192 e h is);
-      endpoints_differ = λ d e g h isg ish apart. absurd (nobody 192 d g isg);
+      endpoints_stand = λ e h is. absurd (none-under t p host e h is);
+      endpoints_small = λ e h is. absurd (none-under t p host e h is);
+      endpoints_differ = λ d e g h isg ish apart. absurd (none-under t p host d g isg);
       keys_named = λ key open_. let no_ : false ≡ true = sym (ap (λ (es : List (Option HostEndpoint)). key_at es key) closed) ∙ open_ in absurd (cc);
       future_names = length-replicate {A = Option FutureState} 64 None;
       futures_wait = λ n f is. absurd (nobody 64 n f is);
@@ -80,23 +95,8 @@ empty-sound t p host idle none nothing closed =
       futures_apart = λ e n h f ish isf. absurd (nobody 64 n f isf);
     }
 
-none-places : (es : List (Option EndpointState)) (rs : List (Option ReaderState)) (ws : List (Option WriterState)) → es ≡ replicate 64 None → rs ≡ replicate 64 None → ws ≡ replicate 64 None → endpoints_with es rs ws ≡ replicate 192 None
-none-places es rs ws e q w =
-    let none_read : map (option_map endpoint_of) rs ≡ replicate 64 None = ap (map (option_map endpoint_of)) q ∙ sym (map-replicate endpoint_of 64) in
-    let none_written : map (option_map writer_endpoint) ws ≡ replicate 64 None = ap (map (option_map writer_endpoint)) w ∙ sym (map-replicate writer_endpoint 64) in
-    ap (λ (l : List (Option EndpointState)). l ++ (map (option_map endpoint_of) rs ++ map (option_map writer_endpoint) ws)) e
-    ∙ ap (λ (l : List (Option EndpointState)). replicate 64 None ++ (l ++ map (option_map writer_endpoint) ws)) none_read
-    ∙ ap (λ (l : List (Option EndpointState)). replicate 64 None ++ (replicate 64 None ++ l)) none_written
-    ∙ ap (λ (l : List (Option EndpointState)). replicate 64 None ++ l) (replicate-append-replicate 64 64 None)
-    ∙ replicate-append-replicate 64 128 None
-
 made-empty : (t : Tree) (p : List UdevPacket) (host : HostState) (ds : List (Option ℕ)) (is : List (Option InterfaceState)) (es : List (Option EndpointState)) (rs : List (Option ReaderState)) (ws : List (Option WriterState)) (fs : List (Option FutureState)) → ds ≡ replicate 64 None → is ≡ replicate 64 None → es ≡ replicate 64 None → rs ≡ replicate 64 None → ws ≡ replicate 64 None → fs ≡ replicate 64 None → session_made t p host ds is es rs ws fs ≡ empty_session t p host
-made-empty t p host ds is es rs ws fs d i e q w f =
-    ap (λ (l : List (Option ℕ)). session_made t p host l is es rs ws fs) d ∙ ap (λ (l : List (Option InterfaceState)). session_made t p host (replicate 64 None) l es rs ws fs) i
-    ∙ ap (λ (l : List (Option EndpointState)). record (empty_session t p host) { endpoints = l; readers = map (option_map bare_reader_of) rs; writers = map (option_map bare_writer_of) ws; futures = fs }) (none-places es rs ws e q w)
-    ∙ ap (λ (l : List (Option BareReader)). record (empty_session t p host) { readers = l; writers = map (option_map bare_writer_of) ws; futures = fs }) (ap (map (option_map bare_reader_of)) q ∙ sym (map-replicate bare_reader_of 64))
-    ∙ ap (λ (l : List (Option BareWriter)). record (empty_session t p host) { writers = l; futures = fs }) (ap (map (option_map bare_writer_of)) w ∙ sym (map-replicate bare_writer_of 64))
-    ∙ ap (λ (l : List (Option FutureState)). record (empty_session t p host) { futures = l }) f
+made-empty t p host ds is es rs ws fs d i e q w f = rw (d, i, e, q, w, f) refl
 
 start-steps : (items : List Item) → (start items).host.steps ≡ []
 unfolding start
@@ -120,14 +120,10 @@ sound-start items t p host ds is es rs ws fs start_ d i e q w f =
 
 empty-start : (items : List Item) → empty_session (tree_of items) (packets_of items) (start items).host ≡ session_of (start items)
 unfolding start
-empty-start items =
-    ap (λ (l : List (Option EndpointState)). record (empty_session (tree_of items) (packets_of items) (start items).host) { endpoints = l }) (map-replicate endpoint_state 192)
-    ∙ ap (λ (l : List (Option BareReader)). record (empty_session (tree_of items) (packets_of items) (start items).host) { endpoints = map (option_map endpoint_state) (replicate 192 None); readers = l }) (map-replicate (λ (x : Reader). x.bare) 64)
-    ∙ ap (λ (l : List (Option BareWriter)). record (empty_session (tree_of items) (packets_of items) (start items).host) { endpoints = map (option_map endpoint_state) (replicate 192 None); readers = map (option_map (λ (x : Reader). x.bare)) (replicate 64 None); writers = l }) (map-replicate (λ (x : Writer). x.bare) 64)
+empty-start items = refl
 
-few-start : (items : List Item) (e : ℕ) (h : Endpoint) → named (start items).endpoints e ≡ Some h → h.taken ≤ length h.tickets
-unfolding start
-few-start items e h is = absurd (nobody 192 e h is)
+few-start : (items : List Item) (e : EndpointName) (h : Endpoint) → endpoint_under (start items) e ≡ Some h → h.taken ≤ length h.tickets
+few-start items e h is = absurd (none-some h (sym (none-start items e) ∙ is))
 
 pub represents-start : (items : List Item) (t : Tree) (p : List UdevPacket) (host : HostState) (ds : List (Option ℕ)) (is : List (Option InterfaceState)) (es : List (Option EndpointState)) (rs : List (Option ReaderState)) (ws : List (Option WriterState)) (fs : List (Option FutureState)) → host ≡ (start items).host → ds ≡ replicate 64 None → is ≡ replicate 64 None → es ≡ replicate 64 None → rs ≡ replicate 64 None → ws ≡ replicate 64 None → fs ≡ replicate 64 None → t ≡ tree_of items → p ≡ packets_of items → Represents (session_made t p host ds is es rs ws fs) (start items)
 represents-start items t p host ds is es rs ws fs start_ d i e q w f known left =

@@ -11,7 +11,7 @@ use Rattle.usb_session_calls.specs.Names.{named, is_free, freed, set_name}
 use Rattle.usb_session_calls.specs.State.{State, Endpoint, Reader, Writer}
 use Rattle.usb_session_calls.specs.EndpointNames.{EndpointName, Own, OfReader, OfWriter, endpoint_under}
 use Rattle.usb_session.specs.ControlAnswers.{listed}
-use Rattle.usb_session_calls.proofs.NameLemmas.{place_of, named_of, free_place, free-within}
+use Rattle.usb_session_calls.proofs.NameLemmas.{place_of, free-none, free-within}
 use Rattle.usb_session_calls.proofs.EndpointNameLemmas.{Changed, ChangedAt, cases_name, set-changes, freed-changes}
 use Rattle.usb_session.proofs.PrintLemmas.{mapped-some}
 use Rattle.usb_session.proofs.Does.{NameCounts, name_counts, Changes}
@@ -142,7 +142,7 @@ pub listed-apart : (o : Option ℕ) (t : ℕ) → times t (listed o) ≡ 0 → o
 listed-apart o t none is = let here = listed-once o t is in absurd (omega arith)
 
 -- a name is one of so many
-abbrev IsAmong : NameCounts → EndpointName → Type 0
+abbrev pub IsAmong : NameCounts → EndpointName → Type 0
 IsAmong c (Own e) = e < c.own
 IsAmong c (OfReader r) = r < c.readers
 IsAmong c (OfWriter w) = w < c.writers
@@ -150,7 +150,7 @@ IsAmong c (OfWriter w) = w < c.writers
 named-within : {X : Type 0} (xs : List (Option X)) (n : ℕ) (x : X) → named xs n ≡ Some x → n < length xs
 named-within xs n x is = slice_get_within xs n (Some x) (place_of xs n x is)
 
-among-names : (state : State) (e : EndpointName) (h : Endpoint) → endpoint_under state e ≡ Some h → IsAmong (name_counts state) e
+pub among-names : (state : State) (e : EndpointName) (h : Endpoint) → endpoint_under state e ≡ Some h → IsAmong (name_counts state) e
 among-names state (Own e) h is = named-within state.endpoints e h is
 among-names state (OfReader r) h is =
     let x = mapped-some (λ (x : Reader). x.endpoint) (named state.readers r) h is in named-within state.readers r x.0 x.1
@@ -272,7 +272,7 @@ awaited-freed t fs n f is =
 
 pub awaited-set : (t : ℕ) (fs : List (Option FutureState)) (n : ℕ) (f : FutureState) → is_free fs n ≡ true → times_awaited t (set_name fs n f) ≡ times_awaited t fs + times t (listed f.ticket)
 awaited-set t fs n f free =
-    let was : times_in ticket_in t (named fs n) ≡ 0 = ap (times_in ticket_in t) (named_of fs n None (free_place fs n free)) in
+    let was : times_in ticket_in t (named fs n) ≡ 0 = ap (times_in ticket_in t) (free-none fs n free) in
     let change = awaited-by t fs (set_name fs n f) n (Some f) (set-changes fs n f free) (free-within fs n free) in omega arith
 
 pub awaited-one : (t : ℕ) (fs : List (Option FutureState)) (n : ℕ) (f : FutureState) → named fs n ≡ Some f → times t (listed f.ticket) ≤ times_awaited t fs

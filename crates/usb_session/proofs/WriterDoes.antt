@@ -1,5 +1,5 @@
 -- What the calls on writers do.
-use Rattle.std.proofs.Common.{◌≡◌, ℕ, false, List, [], ◌∷◌, length, Some, None, Result, Ok, Err, refl, ap}
+use Rattle.std.proofs.Common.{◌≡◌, ℕ, false, List, [], ◌∷◌, length, Option, Some, None, Result, Ok, Err, refl, ap}
 use Rattle.std.specs.Option.{option_map}
 use Rattle.std.proofs.lemmas.Bool.{and_parts}
 use Rattle.usb_device_host.specs.HostState.{HostState}
@@ -24,14 +24,14 @@ use Rattle.usb_session_calls.specs.CalledWriters.{writer_called, on_writer}
 use Rattle.usb_session_calls.specs.State.{State, Writer, tickets_at, endpoint_of_writer}
 use Rattle.usb_session_calls.specs.EndpointNames.{EndpointName, Own, OfReader, OfWriter, endpoint_under}
 use Rattle.usb_session_calls.proofs.NameLemmas.{free-none, length-change_named}
-use Rattle.usb_session_calls.proofs.EndpointNameLemmas.{set-changes, freed-changes, change-changes}
+use Rattle.usb_session_calls.proofs.EndpointNameLemmas.{Changed, set-changes, freed-changes, change-changes}
 use Rattle.usb_session_calls.specs.Writers.{nothing_called, with_writer, writer_answer, without_writer, writer_inner_answer, with_transfers, closed_writer, close_writer_answer, writer_closed_at, writer_closed}
 use Rattle.usb_session_calls.specs.Writes.{writing_at, left_by_writer, called_as, flush_as, finish_as}
 use Rattle.usb_session_calls.specs.Answer.{answer_with, condition_answer, ok_answer, silent, if_open}
 use Rattle.usb_device_endpoint.specs.Closes.{after_close}
 use Rattle.usb_session.specs.Served.{closed_under}
 use Rattle.usb_session.proofs.CallLeads.{Leads, leads-start, leads-send, leads-wait, leads-take, called-acts}
-use Rattle.usb_session.proofs.Does.{Acts, Changes, Quiet, Does, says_done, ends, moves, kept-change, own-changes, writer-changes, quiet-aside, quiet-same, named-does, closing-does, free-does, bar-does}
+use Rattle.usb_session.proofs.Does.{Shuts, Acts, Changes, Quiet, Does, says_done, ends, moves, kept-change, own-changes, writer-changes, quiet-aside, quiet-same, named-does, closing-does, free-does, bar-does}
 
 -- a writer is made of an endpoint, and the endpoint comes back
 pub writer-does : (state : State) (w e size : ℕ) → Does state (writer_answer state w e size)
@@ -71,6 +71,14 @@ unfolding writer_closed
 writer_closed-does state w lines =
     closing-does state (OfWriter w) lines (named state.writers w) endpoint_of_writer (λ o. silent (writer_closed_at state w o)) (closed_writer state w) refl refl (quiet-same state) (λ x. refl)
     (λ x is. closed-changes state w x) (λ x. quiet-same (closed_writer state w x))
+
+pub writer_closed-shuts : Shuts writer_closed OfWriter
+unfolding writer_closed
+writer_closed-shuts state n = by (named state.writers n) refl
+  where
+    by : (o : Option Writer) → named state.writers n ≡ o → Changed (endpoint_under state) (endpoint_under (writer_closed_at state n o)) (OfWriter n) None
+    by None is = record { here = ap (option_map endpoint_of_writer) is; others = λ d apart. refl }
+    by (Some x) is = (closed-changes state n x).endpoints
 
 pub close_writer-does : (state : State) (w : ℕ) (lines : EndpointName → List (List ℕ)) → Acts (close_writer_answer state w) state (closed_under state lines (OfWriter w)) []
 unfolding close_writer_answer
