@@ -89,7 +89,7 @@ no_name n below is = let few : nat_le n 63 ≡ true = grind (arith, nat_tests) i
 pub end-host : (s : SessionState) (host now : HostState) (state : State) → s.host ≡ host → now ≡ finished host → Represents s (devices_closed (interfaces_closed (futures_closed (endpoints_closed (writers_closed (readers_closed state 64) 64) 64) 64) 64) 64) → now ≡ ended state
 unfolding ended all_closed
 end-host s host now state here done r =
-    done ∙ ap finished (sym here ∙ ap (λ (v : SessionState). v.host) r.is)
+    done ∙ ap finished (sym here ∙ ap (λ (v : SessionState). v.host) r)
 
 -- one number more
 pub below-more : {S : Type 0} (act : S → ℕ → S) (state : S) (n : ℕ) → below act state (n + 1) ≡ act (below act state n) n
