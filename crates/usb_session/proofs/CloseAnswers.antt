@@ -1,16 +1,14 @@
 -- What the close of what is open under a name answers.
-use Rattle.std.proofs.Common.{◌≡◌, ℕ, List, ◌++◌, Option, Some, None, Bool, true, false, Result, Ok, Err, String, string_bytes, refl, ap, sym, ◌∙◌, subst}
+use Rattle.std.proofs.Common.{◌≡◌, ℕ, List, ◌++◌, Option, Some, None, Bool, true, false, Result, Ok, Err, String, string_bytes, subst}
 use Rattle.std.specs.Prelude.{is_some, OnOk, if◌then◌else◌}
-use Rattle.std.specs.Option.{option_map}
 use Rattle.std.specs.declared.alloc.Global.{Global}
 use Rattle.usb_session_text.specs.Calls.{condition_line, ok_line}
-use Rattle.usb_session_calls.specs.Names.{named}
-use Rattle.usb_session_calls.specs.State.{State, Endpoint, endpoint_state}
+use Rattle.usb_session_calls.specs.State.{State}
 use Rattle.usb_session_calls.specs.Answer.{condition_answer, ok_answer, if_open}
 use Rattle.usb_session_calls.specs.SessionState.{SessionState}
 use Rattle.usb_session_calls.specs.Relation.{Represents}
 use Rattle.usb_session_calls.specs.Answered.{Answered, Answers}
-use Rattle.usb_session_calls.proofs.Answering.{named_kept, told-answered}
+use Rattle.usb_session_calls.proofs.Answering.{told-answered}
 
 answered-by : {X : Type 0} (s : SessionState) (before after : List ℕ) (left : Option X → State) (o : Option X) (was : Bool) → is_some o ≡ was → Represents s (left o) → after ≡ before ++ (if was then ok_line else condition_line)
     → Answered s before after (if_open o (λ x. ok_answer (left (Some x))) (condition_answer (left None)))
@@ -28,11 +26,3 @@ close-answers found left old new n d before after (Err error) was same is stands
 close-answers found left old new n d before after (Ok done) was same is stands line = λ state r.
     subst (λ m. Answered new (string_bytes before) (string_bytes after) (if_open (found state m) (λ x. ok_answer (left state m (Some x))) (condition_answer (left state m None)))) same
     (answered-by new (string_bytes before) (string_bytes after) (left state n) (found state n) was (is state r) (stands state r) line)
-
-some_by : (o : Option Endpoint) → is_some o ≡ is_some (option_map endpoint_state o)
-some_by None = refl
-some_by (Some h) = refl
-
--- where an endpoint is open in the session it is in the state
-pub some_kept : (s : SessionState) (state : State) (p : ℕ) (was : Bool) → Represents s state → is_some (named s.endpoints p) ≡ was → is_some (named state.endpoints p) ≡ was
-some_kept s state p was r is = some_by (named state.endpoints p) ∙ sym (ap is_some (named_kept s state p r)) ∙ is

@@ -1,8 +1,11 @@
--- An endpoint is taken out of its name and closed.
-use Rattle.std.proofs.Common.{◌≡◌, ℕ, arith, List, [], ◌∷◌, ◌+◌, length, length-append, Option, Some, None, Bool, true, false, refl, ap, sym, ◌∙◌, subst}
-use Rattle.std.specs.Prelude.{is_some, ◌==◌}
+-- An endpoint is taken out of its name and closed, or a reader or a writer with its endpoint.
+use Rattle.std.proofs.Common.{◌≡◌, ℕ, arith, List, [], ◌∷◌, ◌+◌, ◌++◌, length, map, length-append, Option, Some, None, Bool, true, false, refl, ap, sym, ◌∙◌, subst}
+use Rattle.std.specs.Prelude.{◌==◌}
+use Rattle.std.specs.Option.{option_map}
 use Rattle.std.proofs.lemmas.Bool.{cond_both, eq-eqb}
 use Rattle.usb_device_endpoint.specs.BusState.{BusState, without_key}
+use Rattle.usb_kernel_devices.specs.declared.step.KernelStep.{KernelStep}
+use Rattle.usb_kernel.specs.Extends.{Extends}
 use Rattle.usb_device_host.proofs.ClaimFrames.{goes-trans}
 use Rattle.usb_device_ledger.proofs.DeviceLemmas.{counts-same}
 use Rattle.usb_device_endpoint.specs.EndpointState.{EndpointState}
@@ -15,21 +18,24 @@ use Rattle.usb_device_host.specs.HostCalls.{host_discarded, host_left, host_call
 use Rattle.usb_device_host.specs.TicketEnds.{host_abandoned}
 use Rattle.usb_device_host.proofs.CallFrames.{keeps-open, keeps-abandoned, line-left, interfaces-left, bus-left}
 use Rattle.usb_device_host.proofs.WaitFrames.{line-keeps, line-trans}
-use Rattle.usb_session.specs.declared.session.Session.TheInside.{Inside}
+use Rattle.usb_io.specs.Readers.{ReaderState}
+use Rattle.usb_io.specs.Writers.{WriterState}
 use Rattle.usb_session_calls.specs.Names.{named, freed}
-use Rattle.usb_session_calls.specs.State.{State, endpoint_state}
+use Rattle.usb_session_calls.specs.EndpointNames.{EndpointName, Own, OfReader, OfWriter}
+use Rattle.usb_session_calls.specs.State.{State, endpoint_state, state_of_reader, state_of_writer}
 use Rattle.usb_session_calls.specs.Closes.{closed}
-use Rattle.usb_session_calls.specs.SessionState.{SessionState, IsSound}
-use Rattle.usb_session_calls.specs.SessionParts.{endpoints_with}
-use Rattle.usb_session.specs.SessionFacts.{made_of}
-use Rattle.usb_session_calls.specs.ReaderAt.{endpoint_place}
+use Rattle.usb_session_calls.specs.Readers.{reader_closed}
+use Rattle.usb_session_calls.specs.Writers.{writer_closed}
+use Rattle.usb_session_calls.specs.SessionState.{SessionState, IsSound, open_under}
 use Rattle.usb_session_calls.specs.Relation.{Represents}
-use Rattle.usb_session_calls.proofs.Answering.{none_kept, host_is}
-use Rattle.usb_session_calls.proofs.Called.{KeepsSession, OpenAt, open_at, sound-freed, represents-freed}
-use Rattle.usb_session.proofs.OpenPlaces.{taken-endpoint, freed-endpoint_after}
+use Rattle.usb_session_calls.proofs.Answering.{host_is}
+use Rattle.usb_session_calls.proofs.Called.{KeepsSession, with_open, sound-gone, represents-freed, represents-reader_freed, represents-writer_freed, endpoints_kept, readers_kept, writers_kept}
+use Rattle.usb_session_calls.proofs.EndpointNameLemmas.{freed-changes}
+use Rattle.usb_session_calls.proofs.NameLemmas.{freed-none}
 use Rattle.usb_session_calls.proofs.NamedKeys.{OpensNone, none-goes}
 use Rattle.usb_session_calls.proofs.SubmitCode.{line-all_discarded}
-use Rattle.usb_session.proofs.TakenOut.{made_with, places-made, named-made, none_made, keeps-line}
+use Rattle.usb_session.proofs.KeptNames.{kept-at, kept-none}
+use Rattle.usb_session.proofs.Replaced.{Replaces, reader_endpoint, writer_endpoint, own-replaces, reader-replaces, writer-replaces}
 use Rattle.usb_session.proofs.OrderLemmas.{before-past, left-past}
 
 line-all_abandoned : (h : HostState) (ts : List ℕ) → LineGoesOn h (all_abandoned host_abandoned h ts)
@@ -43,6 +49,15 @@ before_left h e = all_abandoned host_abandoned (all_discarded host_discarded h e
 line-before_left : (h : HostState) (e : EndpointState) → LineGoesOn h (before_left h e)
 line-before_left h e =
     line-trans h (all_discarded host_discarded h e.pending) (before_left h e) (line-all_discarded h e.pending) (line-all_abandoned (all_discarded host_discarded h e.pending) e.pending)
+
+no_front : (front rest : List KernelStep) → [] ≡ front ++ rest → rest ≡ []
+no_front [] rest is = sym is
+no_front (s ∷ ss) rest is = absurd (cc)
+
+-- between lines no step is left
+keeps-line : (old new : HostState) → old.steps ≡ [] → Extends old.kernel.past new.kernel.past → LineGoesOn old new → KeepsSession old new
+keeps-line old new idle past line =
+    record { idle = no_front line.front new.steps (sym idle ∙ line.steps); past = past; devices = counts-same old.devices new.devices line.devices; interfaces = line.interfaces }
 
 -- the line, what is claimed and the places for steps are kept
 keeps-closed : (h : HostState) (e : EndpointState) → h.steps ≡ [] → KeepsSession h (after_close host_calls h e)
@@ -71,51 +86,86 @@ none-closed h e k open_ =
 key-closed : (h : HostState) (e : EndpointState) → key_at (after_close host_calls h e).endpoints e.key ≡ false
 key-closed h e = left-key (before_left h e) e.key e.key ∙ rw (eq-eqb e.key e.key refl) refl
 
-pub after-sound : (i : Inside) (now : HostState) (after : List (Option EndpointState)) (p : ℕ) (z : EndpointState) → IsSound (made_of i) → named (made_of i).endpoints p ≡ Some z → after ≡ freed (made_of i).endpoints p → now ≡ after_close host_calls i.host z → KeepsOthers (bus_of i.host) (bus_of now) z.key → IsSound (record (made_of i) { host = now; endpoints = after })
-after-sound i now after p z sound was rest bus others =
-    sound-freed (made_of i) now after p z sound was rest (subst (KeepsSession i.host) (sym bus) (keeps-closed i.host z sound.idle)) others
-    (subst (λ (g : HostState). OpensNone i.host.endpoints g.endpoints) (sym bus) (none-closed i.host z))
-    (ap (λ (g : HostState). key_at g.endpoints z.key) bus ∙ key-closed i.host z)
-
-pub closed-sound : (i : Inside) (now : HostState) (mid : List (Option EndpointState)) (n : ℕ) (x : EndpointState) → IsSound (made_of i) → named i.endpoints.items n ≡ Some x → mid ≡ freed i.endpoints.items n → now ≡ after_close host_calls i.host x → KeepsOthers (bus_of i.host) (bus_of now) x.key → IsSound (made_with i now mid)
-closed-sound i now mid n x sound was rest bus others =
-    let places = places-made i sound in
-    after-sound i now (endpoints_with mid i.readers.items i.writers.items) (endpoint_place n) x sound (taken-endpoint i.endpoints.items i.readers.items i.writers.items places n x was)
-    (freed-endpoint_after i.endpoints.items i.readers.items i.writers.items places n mid rest) bus others
-
 pub closed-spare : (h now : HostState) (e : EndpointState) → h.steps ≡ [] → now ≡ after_close host_calls h e → now.kernel.spare ≡ h.kernel.spare
 closed-spare h now e idle bus =
     let before = line-before_left h e in
     let none : length before.front + length (before_left h e).steps ≡ 0 = sym (length-append before.front (before_left h e).steps) ∙ ap length (sym before.steps ∙ idle) in
     ap (λ (g : HostState). g.kernel.spare) bus ∙ (line-left (before_left h e) e.key).spare ∙ omega (arith, before.spare, none)
 
-pub freed-made : (i : Inside) (S : SessionState) (mid : List (Option EndpointState)) (n : ℕ) → IsSound (made_of i) → made_of i ≡ S → mid ≡ freed i.endpoints.items n → endpoints_with mid i.readers.items i.writers.items ≡ freed S.endpoints (endpoint_place n)
-freed-made i S mid n sound view rest =
-    freed-endpoint_after i.endpoints.items i.readers.items i.writers.items (places-made i sound) n mid rest ∙ ap (λ (v : SessionState). freed v.endpoints (endpoint_place n)) view
+-- the session in which the endpoint of a name was closed
+sound-closed_under : (s : SessionState) (now : HostState) (es : List (Option EndpointState)) (rs : List (Option ReaderState)) (ws : List (Option WriterState)) (e : EndpointName) (x : EndpointState) → IsSound s → open_under s e ≡ Some x → Replaces s es rs ws e None → now ≡ after_close host_calls s.host x → KeepsOthers (bus_of s.host) (bus_of now) x.key → IsSound (with_open s now es rs ws)
+sound-closed_under s now es rs ws e x sound was gone bus others =
+    sound-gone s now es rs ws e x sound was gone.counts (subst (KeepsSession s.host) (sym bus) (keeps-closed s.host x sound.idle)) others
+    (subst (λ (g : HostState). OpensNone s.host.endpoints g.endpoints) (sym bus) (none-closed s.host x))
+    gone.changed (ap (λ (g : HostState). key_at g.endpoints x.key) bus ∙ key-closed s.host x)
 
-pub is_some-made : (i : Inside) (S : SessionState) (n : ℕ) (x : EndpointState) → IsSound (made_of i) → made_of i ≡ S → named i.endpoints.items n ≡ Some x → true ≡ is_some (named S.endpoints (endpoint_place n))
-is_some-made i S n x sound view was = sym (ap is_some (named-made i S n x sound view was))
+-- the host is that of the state
+closed-host : (s : SessionState) (state : State) (now : HostState) (x y : EndpointState) → Represents s state → x ≡ y → now ≡ after_close host_calls s.host y → now ≡ after_close host_calls state.host x
+closed-host s state now x y r same bus = bus ∙ ap (λ (g : HostState). after_close host_calls g y) (host_is s state r) ∙ ap (after_close host_calls state.host) (sym same)
 
-pub is_none-made : (i : Inside) (S : SessionState) (n : ℕ) → IsSound (made_of i) → made_of i ≡ S → named i.endpoints.items n ≡ None → false ≡ is_some (named S.endpoints (endpoint_place n))
-is_none-made i S n sound view none = sym (ap is_some (none_made i S n sound view none))
+module _ (s S : SessionState) (now : HostState) (n : ℕ) (sound : IsSound s) (view : s ≡ S) where
+  -- an endpoint was closed, or nothing was open under its name
+  module _ (mid : List (Option EndpointState)) (rest : mid ≡ freed s.endpoints n) where
+    pub closed-sound : (x : EndpointState) → named s.endpoints n ≡ Some x → now ≡ after_close host_calls s.host x → KeepsOthers (bus_of s.host) (bus_of now) x.key → IsSound (record s { host = now; endpoints = mid })
+    closed-sound x was bus others =
+        rw rest (sound-closed_under s now (freed s.endpoints n) s.readers s.writers (Own n) x sound was (own-replaces s n (freed s.endpoints n) None (freed-changes s.endpoints n)) bus others)
 
-pub after-represents : (i : Inside) (S : SessionState) (now : HostState) (after : List (Option EndpointState)) (p : ℕ) (z : EndpointState) → made_of i ≡ S → after ≡ freed (made_of i).endpoints p → now ≡ after_close host_calls i.host z → (state : State) → Represents S state → (o : OpenAt state p z) → Represents (record (made_of i) { host = now; endpoints = after }) (record state { host = after_close host_calls state.host (endpoint_state o.entry); endpoints = freed state.endpoints p })
-after-represents i S now after p z view rest bus state r o =
-    let s = subst (λ v. Represents v state) (sym view) r in
-    subst (λ (g : HostState). Represents (record (made_of i) { host = now; endpoints = after }) (record state { host = g; endpoints = freed state.endpoints p }))
-    (bus ∙ ap (λ (g : HostState). after_close host_calls g z) (host_is (made_of i) state s) ∙ ap (after_close host_calls state.host) (sym o.same))
-    (represents-freed (made_of i) state now after p s rest)
+    pub closed-represents : (x : EndpointState) → named s.endpoints n ≡ Some x → now ≡ after_close host_calls s.host x → (state : State) → Represents S state → Represents (record s { host = now; endpoints = mid }) (closed state n)
+    unfolding closed
+    closed-represents x was bus state r =
+        let here = subst (λ v. Represents v state) (sym view) r in
+        let k = kept-at endpoint_state state.endpoints s.endpoints (endpoints_kept s state here) n x was in
+        let host = closed-host s state now (endpoint_state k.entry) x here k.same bus in
+        rw (k.is, rest)
+        (subst (λ (g : HostState). Represents (record s { host = now; endpoints = freed s.endpoints n }) (record state { host = g; endpoints = freed state.endpoints n })) host
+        (represents-freed s state now n here))
 
-pub closed-represents : (i : Inside) (S : SessionState) (now : HostState) (mid : List (Option EndpointState)) (n : ℕ) (x : EndpointState) → IsSound (made_of i) → made_of i ≡ S → named i.endpoints.items n ≡ Some x → mid ≡ freed i.endpoints.items n → now ≡ after_close host_calls i.host x → (state : State) → Represents S state → Represents (made_with i now mid) (closed state (endpoint_place n))
-unfolding closed
-closed-represents i S now mid n x sound view was rest bus state r =
-    let p = endpoint_place n in
-    let o = open_at S state p x r (named-made i S n x sound view was) in
-    rw o.is
-    (after-represents i S now (endpoints_with mid i.readers.items i.writers.items) p x view (freed-endpoint_after i.endpoints.items i.readers.items i.writers.items (places-made i sound) n mid rest) bus state r o)
+    pub none-closed_represents : named s.endpoints n ≡ None → (state : State) → Represents S state → Represents (record s { endpoints = mid }) (closed state n)
+    unfolding closed
+    none-closed_represents none state r =
+        let here = subst (λ v. Represents v state) (sym view) r in
+        rw (kept-none endpoint_state state.endpoints s.endpoints (endpoints_kept s state here) n none, rest, freed-none s.endpoints n none) here
 
-pub nothing-closed : (i : Inside) (S : SessionState) (mid : List (Option EndpointState)) (n : ℕ) → IsSound (made_of i) → made_of i ≡ S → named i.endpoints.items n ≡ None → mid ≡ i.endpoints.items → (state : State) → Represents S state → Represents (made_with i i.host mid) (closed state (endpoint_place n))
-unfolding closed
-nothing-closed i S mid n sound view none rest state r =
-    rw (none_kept S state (endpoint_place n) r (none_made i S n sound view none))
-    (subst (λ l. Represents (made_with i i.host l) state) (sym rest) (subst (λ v. Represents v state) (sym view) r))
+  -- a reader, with its endpoint
+  module _ (mid : List (Option ReaderState)) (rest : mid ≡ freed s.readers n) where
+    pub reader-sound : (x : ReaderState) → named s.readers n ≡ Some x → now ≡ after_close host_calls s.host x.endpoint → KeepsOthers (bus_of s.host) (bus_of now) x.endpoint.key → IsSound (record s { host = now; readers = mid })
+    reader-sound x was bus others =
+        rw rest (sound-closed_under s now s.endpoints (freed s.readers n) s.writers (OfReader n) x.endpoint sound (ap (option_map reader_endpoint) was) (reader-replaces s n (freed s.readers n) None (freed-changes s.readers n)) bus others)
+
+    pub reader-represents : (x : ReaderState) → named s.readers n ≡ Some x → now ≡ after_close host_calls s.host x.endpoint → (state : State) → Represents S state → Represents (record s { host = now; readers = mid }) (reader_closed state n)
+    unfolding reader_closed
+    reader-represents x was bus state r =
+        let here = subst (λ v. Represents v state) (sym view) r in
+        let k = kept-at state_of_reader state.readers s.readers (readers_kept s state here) n x was in
+        let host = closed-host s state now (endpoint_state k.entry.endpoint) x.endpoint here (ap reader_endpoint k.same) bus in
+        rw (k.is, rest)
+        (subst (λ (g : HostState). Represents (record s { host = now; readers = freed s.readers n }) (record state { host = g; readers = freed state.readers n })) host
+        (represents-reader_freed s state now n here))
+
+    pub none-reader_represents : named s.readers n ≡ None → (state : State) → Represents S state → Represents (record s { readers = mid }) (reader_closed state n)
+    unfolding reader_closed
+    none-reader_represents none state r =
+        let here = subst (λ v. Represents v state) (sym view) r in
+        rw (kept-none state_of_reader state.readers s.readers (readers_kept s state here) n none, rest, freed-none s.readers n none) here
+
+  -- a writer, with its endpoint
+  module _ (mid : List (Option WriterState)) (rest : mid ≡ freed s.writers n) where
+    pub writer-sound : (x : WriterState) → named s.writers n ≡ Some x → now ≡ after_close host_calls s.host x.endpoint → KeepsOthers (bus_of s.host) (bus_of now) x.endpoint.key → IsSound (record s { host = now; writers = mid })
+    writer-sound x was bus others =
+        rw rest (sound-closed_under s now s.endpoints s.readers (freed s.writers n) (OfWriter n) x.endpoint sound (ap (option_map writer_endpoint) was) (writer-replaces s n (freed s.writers n) None (freed-changes s.writers n)) bus others)
+
+    pub writer-represents : (x : WriterState) → named s.writers n ≡ Some x → now ≡ after_close host_calls s.host x.endpoint → (state : State) → Represents S state → Represents (record s { host = now; writers = mid }) (writer_closed state n)
+    unfolding writer_closed
+    writer-represents x was bus state r =
+        let here = subst (λ v. Represents v state) (sym view) r in
+        let k = kept-at state_of_writer state.writers s.writers (writers_kept s state here) n x was in
+        let host = closed-host s state now (endpoint_state k.entry.endpoint) x.endpoint here (ap writer_endpoint k.same) bus in
+        rw (k.is, rest)
+        (subst (λ (g : HostState). Represents (record s { host = now; writers = freed s.writers n }) (record state { host = g; writers = freed state.writers n })) host
+        (represents-writer_freed s state now n here))
+
+    pub none-writer_represents : named s.writers n ≡ None → (state : State) → Represents S state → Represents (record s { writers = mid }) (writer_closed state n)
+    unfolding writer_closed
+    none-writer_represents none state r =
+        let here = subst (λ v. Represents v state) (sym view) r in
+        rw (kept-none state_of_writer state.writers s.writers (writers_kept s state here) n none, rest, freed-none s.writers n none) here

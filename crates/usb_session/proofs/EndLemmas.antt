@@ -5,8 +5,6 @@ use Rattle.std.proofs.lemmas.Bool.{cases_eq, cases_lt}
 use Rattle.std.proofs.lemmas.Bool.Decides.{nat_tests}
 use Rattle.std.proofs.lemmas.Option.{none-some, same_Some}
 use Rattle.usb_device_endpoint.specs.EndpointState.{EndpointState}
-use Rattle.usb_io.specs.Readers.{ReaderState}
-use Rattle.usb_io.specs.Writers.{WriterState}
 use Rattle.usb_device_host.specs.HostState.{HostState}
 use Rattle.usb_device_ledger.specs.Devices.{is_held}
 use Rattle.usb_device.specs.DeviceLaws.{holds_at}
@@ -32,13 +30,11 @@ use Rattle.usb_script_words.specs.Words.{at_most}
 use Rattle.usb_session_calls.specs.Names.{named, freed}
 use Rattle.usb_session_calls.specs.State.{State}
 use Rattle.usb_session.specs.Below.{below}
-use Rattle.usb_session_calls.specs.SessionParts.{endpoint_of, writer_endpoint, endpoints_with}
-use Rattle.usb_session_calls.specs.ReaderAt.{endpoint_place, reader_place}
-use Rattle.usb_session_calls.specs.WriterAt.{writer_place}
 use Rattle.usb_session.specs.Ends.{interfaces_closed, devices_closed, readers_closed, writers_closed, endpoints_closed, futures_closed, all_closed, ended}
-use Rattle.usb_session_calls.specs.SessionState.{SessionState, IsSound}
+use Rattle.usb_session_calls.specs.EndpointNames.{EndpointName, Own, OfReader, OfWriter}
+use Rattle.usb_session_calls.specs.SessionState.{SessionState, IsSound, open_under}
+use Rattle.usb_session.proofs.Replaced.{reader_endpoint, writer_endpoint}
 use Rattle.usb_session_calls.specs.Relation.{Represents}
-use Rattle.usb_session.proofs.OpenPlaces.{HasPlaces, named-endpoint, named-reader, named-writer}
 use Rattle.usb_session_calls.proofs.CountedNames.{count-none, count-no_name}
 use Rattle.usb_session_calls.proofs.CountedDevices.{count-no_device}
 use Rattle.usb_session_calls.proofs.NameLemmas.{named-freed, named-freed_other, named-past}
@@ -54,19 +50,6 @@ none-more xs after n rest none e below =
     lower : (a b : ℕ) → a ≢ b → a < b + 1 → a < b
     lower a b apart small = omega arith
 
--- those whose places stand behind the first k
-pub none-more_behind : {X : Type 0} (k : ℕ) (xs after : List (Option X)) (n : ℕ) → after ≡ freed xs (k + n) → ((r : ℕ) → r < n → named xs (k + r) ≡ None) → (r : ℕ) → r < n + 1 → named after (k + r) ≡ None
-none-more_behind k xs after n rest none r below =
-    elim (cases_eq r n) [
-      | inl same ↦ ap (λ l. named l (k + r)) rest ∙ ap (λ m. named (freed xs (k + n)) (k + m)) same ∙ named-freed xs (k + n)
-      | inr apart ↦
-          let places : k + r ≢ k + n = λ same. apart (omega (arith, same)) in
-          ap (λ l. named l (k + r)) rest ∙ named-freed_other xs (k + n) (k + r) places ∙ none r (lower r n apart below)
-    ]
-  where
-    lower : (a b : ℕ) → a ≢ b → a < b + 1 → a < b
-    lower a b apart small = omega arith
-
 -- no name is open where none of the 64 is
 pub none-all : {X : Type 0} (xs : List (Option X)) → length xs ≡ 64 → ((n : ℕ) → n < 64 → named xs n ≡ None) → (n : ℕ) → named xs n ≡ None
 none-all xs all none n =
@@ -75,47 +58,21 @@ none-all xs all none n =
       | inr beyond ↦ named-past xs n (omega arith)
     ]
 
-pub unmapped : {X Y : Type 0} (f : X → Y) (o : Option X) → option_map f o ≡ None → o ≡ None
-unmapped f None none = refl
-unmapped f (Some x) none = absurd (none-some (f x) (sym none))
-
--- no place of an endpoint is open where none of a reader's is, none of a writer's, and none of the others
-none-every : {X : Type 0} (xs : List (Option X)) → length xs ≡ 192 → ((r : ℕ) → r < 64 → named xs (reader_place r) ≡ None) → ((w : ℕ) → w < 64 → named xs (writer_place w) ≡ None) → ((e : ℕ) → e < 64 → named xs e ≡ None) → (n : ℕ) → named xs n ≡ None
-none-every xs all readers writers endpoints n =
-    elim (cases_lt n 64) [
-      | inl within ↦ endpoints n within
-      | inr beyond ↦ elim (cases_lt n 128) [
-        | inl low ↦ let place : n ≡ reader_place (n - 64) = omega arith in ap (named xs) place ∙ readers (n - 64) (omega arith)
-        | inr behind ↦ elim (cases_lt n 192) [
-          | inl last ↦ let place : n ≡ writer_place (n - 128) = omega arith in ap (named xs) place ∙ writers (n - 128) (omega arith)
-          | inr past ↦ named-past xs n (omega arith)
-        ]
-      ]
+-- nothing is open under the name of an endpoint any more once readers were closed (read), then writers (written) and then endpoints (closed)
+pub none-open : (read written closed last : SessionState) → IsSound last → ((r : ℕ) → r < 64 → named read.readers r ≡ None) → written.readers ≡ read.readers → ((w : ℕ) → w < 64 → named written.writers w ≡ None)
+    → closed.readers ≡ written.readers → closed.writers ≡ written.writers → ((e : ℕ) → e < 64 → named closed.endpoints e ≡ None) → open_under last ≡ open_under closed → (e : EndpointName) → open_under last e ≡ None
+none-open read written closed last sound readers same_readers writers still_readers same_writers endpoints same (Own e) =
+    none-all last.endpoints sound.endpoint_names (λ n below. ap (λ (opened : EndpointName → Option EndpointState). opened (Own n)) same ∙ endpoints n below) e
+none-open read written closed last sound readers same_readers writers still_readers same_writers endpoints same (OfReader r) =
+    elim (cases_lt r 64) [
+      | inl within ↦ ap (λ (opened : EndpointName → Option EndpointState). opened (OfReader r)) same ∙ ap (option_map reader_endpoint) (ap (λ l. named l r) (still_readers ∙ same_readers) ∙ readers r within)
+      | inr beyond ↦ ap (option_map reader_endpoint) (named-past last.readers r (omega (arith, sound.reader_names, beyond)))
     ]
-
--- so it is once readers were closed (read), then writers (written) and then the others (closed)
-pub none-closed : {X : Type 0} (read written closed_ last : List (Option X)) → length last ≡ 192 → ((r : ℕ) → r < 64 → named read (reader_place r) ≡ None) → ((r : ℕ) → r < 64 → named written (reader_place r) ≡ named read (reader_place r)) → ((w : ℕ) → w < 64 → named written (writer_place w) ≡ None)
-    → ((e : ℕ) → 64 ≤ e → named closed_ e ≡ named written e) → ((e : ℕ) → e < 64 → named closed_ e ≡ None) → ((e : ℕ) → named last e ≡ named closed_ e) → (n : ℕ) → named last n ≡ None
-none-closed read written closed_ last all readers kept_ writers streams endpoints same =
-    none-every last all
-    (λ r below. same (reader_place r) ∙ streams (reader_place r) (omega arith) ∙ kept_ r below ∙ readers r below)
-    (λ w below. same (writer_place w) ∙ streams (writer_place w) (omega arith) ∙ writers w below)
-    (λ e below. same e ∙ endpoints e below)
-
--- then no name of an endpoint is open, none of a reader and none of a writer
-module _ (es : List (Option EndpointState)) (rs : List (Option ReaderState)) (ws : List (Option WriterState)) (places : HasPlaces es rs ws) (none : (n : ℕ) → named (endpoints_with es rs ws) n ≡ None) where
-  pub none-endpoints : (n : ℕ) → named es n ≡ None
-  none-endpoints n = sym (named-endpoint es rs ws places n) ∙ none (endpoint_place n)
-
-  pub none-readers : (n : ℕ) → named rs n ≡ None
-  none-readers = none-all rs places.readers (λ r below. unmapped endpoint_of (named rs r) (sym (named-reader es rs ws places r below) ∙ none (reader_place r)))
-
-  pub none-writers : (n : ℕ) → named ws n ≡ None
-  none-writers n = unmapped writer_endpoint (named ws n) (sym (named-writer es rs ws places n) ∙ none (writer_place n))
-
--- the close of what stands at one place leaves what stands at another
-pub same-apart : {X : Type 0} (xs after : List (Option X)) (n m : ℕ) → m ≢ n → after ≡ freed xs n → named after m ≡ named xs m
-same-apart xs after n m apart rest = ap (λ l. named l m) rest ∙ named-freed_other xs n m apart
+none-open read written closed last sound readers same_readers writers still_readers same_writers endpoints same (OfWriter w) =
+    elim (cases_lt w 64) [
+      | inl within ↦ ap (λ (opened : EndpointName → Option EndpointState). opened (OfWriter w)) same ∙ ap (option_map writer_endpoint) (ap (λ l. named l w) same_writers ∙ writers w within)
+      | inr beyond ↦ ap (option_map writer_endpoint) (named-past last.writers w (omega (arith, sound.writer_names, beyond)))
+    ]
 
 -- a number below 64 is a name's
 pub is_name : (n m : ℕ) → at_most 63 n ≡ Some m → m ≡ n
@@ -187,7 +144,7 @@ end-none s before now same done sound closed none d =
     ap (λ (h : HostState). value_at h.devices d) done ∙ ap (λ ds. value_at ds d) (finished-line before).devices ∙ ap (λ (h : HostState). value_at h.devices d) same ∙ none-left s sound closed none d
 
 -- once all is closed and each ticket has its end, nothing is kept
-pub end-empty : (s : SessionState) (before now : HostState) → before ≡ s.host → now ≡ finished before → IsSound s → ((d : ℕ) → named s.devices d ≡ None) → ((i : ℕ) → named s.interfaces i ≡ None) → ((e : ℕ) → named s.endpoints e ≡ None) → ((n : ℕ) → named s.futures n ≡ None)
+pub end-empty : (s : SessionState) (before now : HostState) → before ≡ s.host → now ≡ finished before → IsSound s → ((d : ℕ) → named s.devices d ≡ None) → ((i : ℕ) → named s.interfaces i ≡ None) → ((e : EndpointName) → open_under s e ≡ None) → ((n : ℕ) → named s.futures n ≡ None)
     → EachIsOwned now.tickets now.endpoints now.interfaces → EachLives now.tickets now.endpoints → HasEnds now.tickets → KeepsNothing now
 end-empty s before now same done sound devices interfaces endpoints futures owned alive ends =
     let line : LineGoesOn s.host now = subst (LineGoesOn s.host) (sym (done ∙ ap finished same)) (finished-line s.host) in
@@ -197,6 +154,6 @@ end-empty s before now same done sound devices interfaces endpoints futures owne
           sym (sound.devices_counted k o (ap (λ ds. value_at ds k) (sym line.devices) ∙ at))
           ∙ count-no_device k s.devices (λ n j open_ same. none-some j (sym (devices n) ∙ open_));
       interfaces = λ k c at. no-handles s sound interfaces k c (line.interfaces.was k c at);
-      endpoints = λ k e at. named-none s.host.endpoints s.endpoints s.futures endpoints futures sound.keys_named k e (line.endpoints.was k e at);
+      endpoints = λ k e at. named-none s.host.endpoints (open_under s) s.futures endpoints futures sound.keys_named k e (line.endpoints.was k e at);
       tickets = ends;
     })

@@ -1,5 +1,5 @@
 -- Framed readers follow their streams behind the lines of a script.
-use Rattle.std.proofs.Common.{◌≡◌, ◌∙◌, ℕ, Some, List, [], ◌∷◌, ◌++◌, append_assoc, subst}
+use Rattle.std.proofs.Common.{◌≡◌, ◌∙◌, List, [], ◌∷◌, ◌++◌, append_assoc, subst}
 use Rattle.usb_kernel.specs.Legal.{IsLawful}
 use Rattle.usb_session_streams.proofs.FramedCalls.{lawful-before}
 use Rattle.usb_script_lines.specs.declared.item.Item.{Item}
@@ -8,7 +8,6 @@ use Rattle.usb_script_words.specs.declared.framing.Framing.TheVariants.{UntilSho
 use Rattle.usb_session_streams.specs.Reads.{read_line, buffer_line}
 use Rattle.usb_session_calls.specs.declared.call.ReaderCall.TheVariants as readers
 use Rattle.usb_session_calls.specs.State.{State}
-use Rattle.usb_session_calls.specs.ReaderAt.{ReaderAt, reader_at}
 use Rattle.usb_session_calls.specs.Steps.{stepped_all}
 use Rattle.usb_session.specs.Crowded.{is_crowded}
 use Rattle.usb_session_calls.specs.Calls.{call_of}
@@ -17,17 +16,13 @@ use Rattle.usb_session.specs.Answers.{answer}
 use Rattle.usb_session.specs.Output.{start, behind, final_host}
 use Rattle.usb_session.specs.Behind.{ScriptsGoOn}
 use Rattle.usb_session.specs.Framed.{EmptyReadIsEnd, FramedScriptsFollow}
-use Rattle.usb_session.proofs.ReadersKeep.{each-reader, behind-all}
+use Rattle.usb_session.proofs.ReadersKeep.{AllReaders, behind-all}
 use Rattle.usb_session.proofs.FramedReaders.{IsFollowing, following}
 use Rattle.usb_session.proofs.FramedEnds.{read-none, buffer-none, line-ends, read-ends, poll_read-ends, fill-ends, poll_fill-ends, prefix-at, end-at}
 use Rattle.usb_session.proofs.LinesBehind.{past_of, behind-push, final-extends}
 
--- each open reader follows its stream, if it is framed
-abbrev pub AreFollowing : State → Type 0
-AreFollowing state = (r : ℕ) (x : ReaderAt) → reader_at state r ≡ Some x → IsFollowing state.host.kernel.past x
-
 -- a line that reads until a short packet, or lends the bytes
-empty-is-end : (state : State) (line : Item) → AreFollowing (answer state line).state → EmptyReadIsEnd state line
+empty-is-end : (state : State) (line : Item) → AllReaders IsFollowing (answer state line).state → EmptyReadIsEnd state line
 unfolding answer call_answer call_of
 empty-is-end state (item.Read UntilShort r most steps) f =
     λ some x consumed at is said.
@@ -48,15 +43,13 @@ empty-is-end state (item.PollFillBuf UntilShort r) f =
 empty-is-end state line f = tt
 
 -- behind the lines of a script
-pub follow-at : ScriptsGoOn → (items : List Item) → IsLawful (final_host items).kernel.past → (before after : List Item) → before ++ after ≡ items → AreFollowing (behind (start items) before)
-follow-at go items lawful before after all r x at =
-    let state = behind (start items) before in
-    let legal = lawful-before (past_of state) (final_host items).kernel.past (final-extends go items before after all) lawful in
-    each-reader IsFollowing state r x (behind-all IsFollowing IsLawful following go items before legal) at
+pub follow-at : ScriptsGoOn → (items : List Item) → IsLawful (final_host items).kernel.past → (before after : List Item) → before ++ after ≡ items → AllReaders IsFollowing (behind (start items) before)
+follow-at go items lawful before after all =
+    behind-all IsFollowing IsLawful following go items before (lawful-before (past_of (behind (start items) before)) (final_host items).kernel.past (final-extends go items before after all) lawful)
 
-follow-line : ScriptsGoOn → (items : List Item) → IsLawful (final_host items).kernel.past → (before after : List Item) (line : Item) → before ++ line ∷ after ≡ items → AreFollowing (answer (behind (start items) before) line).state
+follow-line : ScriptsGoOn → (items : List Item) → IsLawful (final_host items).kernel.past → (before after : List Item) (line : Item) → before ++ line ∷ after ≡ items → AllReaders IsFollowing (answer (behind (start items) before) line).state
 follow-line go items lawful before after line all =
-    subst AreFollowing (behind-push (start items) before line) (follow-at go items lawful (before ++ line ∷ []) after (append_assoc before (line ∷ []) after ∙ all))
+    subst (AllReaders IsFollowing) (behind-push (start items) before line) (follow-at go items lawful (before ++ line ∷ []) after (append_assoc before (line ∷ []) after ∙ all))
 
 pub follow-by : ScriptsGoOn → FramedScriptsFollow
 follow-by go items lawful =

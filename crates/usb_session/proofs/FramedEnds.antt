@@ -1,7 +1,6 @@
 -- A read until a short packet that gives no byte leaves an end that stands, and so does a call that lends none.
 use Rattle.std.proofs.Common.{◌≡◌, ◌∙◌, ℕ, ◌+◌, ◌≤◌, arith, Bool, true, List, [], ◌∷◌, ◌++◌, codes, length, map, get_or, take-append-drop, length-append, Option, Some, None, Result, Ok, Err, refl, ap, sym, subst}
-use Rattle.std.specs.Prelude.{◌&&◌, if◌then◌else◌}
-use Rattle.std.specs.Option.{option_map}
+use Rattle.std.specs.Prelude.{if◌then◌else◌}
 use Rattle.std.specs.Fmt.{decimal}
 use Rattle.std.proofs.lemmas.Bool.{cond_both}
 use Rattle.std.proofs.lemmas.Fmt.{decimal_digit}
@@ -12,7 +11,7 @@ use Rattle.usb_kernel.specs.declared.event.Event.{Event}
 use Rattle.usb_kernel_devices.specs.declared.step.KernelStep.{KernelStep}
 use Rattle.usb_device_host.specs.HostState.{HostState}
 use Rattle.usb_device_host.specs.HostCalls.{host_calls}
-use Rattle.usb_io.specs.Readers.{no_bytes, is_end}
+use Rattle.usb_io.specs.Readers.{is_end}
 use Rattle.usb_io.specs.Reads.{Reading, reading}
 use Rattle.usb_io.specs.Streams.{Mark, Byte, End, stream_of, delivered}
 use Rattle.usb_io.specs.Following.{IsPrefixOf}
@@ -28,12 +27,11 @@ use Rattle.usb_session_text.specs.Calls.{condition_line}
 use Rattle.usb_session_text.specs.Controls.{pending_line}
 use Rattle.usb_session_text.specs.Words.{line_of, hex_word}
 use Rattle.usb_script_words.specs.declared.framing.Framing.TheVariants.{UntilShort}
-use Rattle.usb_session_calls.proofs.NameLemmas.{named-change_same}
+use Rattle.usb_session_calls.specs.Names.{named}
+use Rattle.usb_session_calls.proofs.EndpointNameLemmas.{change-changes}
 use Rattle.usb_session_calls.specs.declared.call.ReaderCall.{ReaderCall}
 use Rattle.usb_session_calls.specs.declared.call.ReaderCall.TheVariants as readers
-use Rattle.usb_session_calls.specs.BareReaders.{bare_of}
-use Rattle.usb_session_calls.specs.State.{State, Reader}
-use Rattle.usb_session_calls.specs.ReaderAt.{ReaderAt, reader_at, state_of_reader}
+use Rattle.usb_session_calls.specs.State.{State, Reader, state_of_reader}
 use Rattle.usb_session_calls.specs.Answer.{Answer, condition_answer, if_open}
 use Rattle.usb_session_calls.specs.Readers.{called}
 use Rattle.usb_session_streams.specs.ReaderCalls.{given_by}
@@ -41,7 +39,7 @@ use Rattle.usb_session_calls.specs.Reads.{consumed_with, bars_read, given_line, 
 use Rattle.usb_session_calls.specs.Steps.{with_steps, then_applied, along_steps}
 use Rattle.usb_session_calls.specs.CalledReaders.{reader_called, on_reader}
 use Rattle.usb_session.specs.Framed.{stream_at}
-use Rattle.usb_session.proofs.ReadersKeep.{parts-of}
+use Rattle.usb_session.proofs.ReadersKeep.{called_at}
 use Rattle.usb_session.proofs.FramedReaders.{FollowsAt, history_of}
 
 -- the line of bytes, behind a word
@@ -108,74 +106,69 @@ polled-none print none (Err TimedOut) is = absurd (none.pending is)
 polled-none print none (Err UnexpectedEof) is = absurd (none.fault (read_fault UnexpectedEof) is)
 
 -- what a call left of a reader
-as-end : (state : State) (r : ℕ) (x0 x : ReaderAt) (items : Option (List Mark)) (bytes : List ℕ) (w : Reading HostState) → reader_at state r ≡ Some x0 → is_end w.reader ≡ true → reader_at (called state r items bytes w) r ≡ Some x → is_end (state_of_reader x) ≡ true
+as-end : (state : State) (r : ℕ) (x0 x : Reader) (items : Option (List Mark)) (bytes : List ℕ) (w : Reading HostState) → named state.readers r ≡ Some x0 → is_end w.reader ≡ true → named (called state r items bytes w).readers r ≡ Some x → is_end (state_of_reader x) ≡ true
 as-end state r x0 x items bytes w was ends at =
-    let change : Reader → Reader = λ y. record y { bare = bare_of w.reader; given = y.given ++ bytes; consumed = items } in
-    let now = parts-of (called state r items bytes w) r x at in
-    let old = parts-of state r x0 was in
-    let reader : x.reader ≡ change x0.reader = same_Some x.reader (change x0.reader) (sym now.reader ∙ named-change_same change state.readers r ∙ ap (option_map change) old.reader) in
-    ap (λ (y : Reader). no_bytes y.bare.unread && y.bare.ended) reader ∙ ends
+    let change : Reader → Reader = called_at state items bytes w in
+    let now : x ≡ change x0 = same_Some x (change x0) (sym at ∙ (change-changes change state.readers r x0 was).here) in
+    ap (λ (y : Reader). is_end (state_of_reader y)) now ∙ ends
 
 -- where a line says that no byte was given, an end stands
 abbrev pub Ends : (List ℕ → List ℕ) → ℕ → Answer → Type 0
-Ends print r a = (x : ReaderAt) → reader_at a.state r ≡ Some x → a.line ≡ print [] → is_end (state_of_reader x) ≡ true
+Ends print r a = (x : Reader) → named a.state.readers r ≡ Some x → a.line ≡ print [] → is_end (state_of_reader x) ≡ true
 
 bar-ends : (print : List ℕ → List ℕ) → PrintsNone print → (state : State) (r : ℕ) (bars : Bool) (call : Answer) → Ends print r call → Ends print r (if bars then condition_answer state else call)
 bar-ends print none state r bars call ends = cond_both bars (condition_answer state) call (Ends print r) (λ yes_ x at is. absurd (none.condition is)) (λ no_. ends)
 
-open-ends : (print : List ℕ → List ℕ) → PrintsNone print → (state : State) (r : ℕ) (call : ReaderAt → Answer) → ((x : ReaderAt) → reader_at state r ≡ Some x → Ends print r (call x)) → Ends print r (if_open (reader_at state r) call (condition_answer state))
-open-ends print none state r call ends = by (reader_at state r) refl
-  where
-    by : (o : Option ReaderAt) → reader_at state r ≡ o → Ends print r (if_open o call (condition_answer state))
-    by None was x at is = absurd (none.condition is)
-    by (Some x0) was x at is = ends x0 was x at is
+open-ends : (print : List ℕ → List ℕ) → PrintsNone print → (state : State) (r : ℕ) (o : Option Reader) (call : Reader → Answer) → ((x : Reader) → o ≡ Some x → Ends print r (call x)) → Ends print r (if_open o call (condition_answer state))
+open-ends print none state r None call ends x at is = absurd (none.condition is)
+open-ends print none state r (Some x0) call ends x at is = ends x0 refl x at is
 
 -- so it is of a line whose call on an open reader is such a call, which may be barred
 pub line-ends : (print : List ℕ → List ℕ) → PrintsNone print → (state : State) (bars : Bool) (barred : State) (r : ℕ) (call : ReaderCall) (steps : List KernelStep)
-    → ((now : State) (x : ReaderAt) → reader_at now r ≡ Some x → Ends print r (reader_called call now r x)) → Ends print r (if bars then condition_answer barred else along_steps state steps (λ s. on_reader s r call))
+    → ((now : State) (x : Reader) → named now.readers r ≡ Some x → Ends print r (reader_called call now r x)) → Ends print r (if bars then condition_answer barred else along_steps state steps (λ s. on_reader s r call))
 unfolding on_reader
 line-ends print none state bars barred r call steps ends =
     let now = with_steps state steps in
-    let opened = open-ends print none now r (reader_called call now r) (ends now) in
+    let opened = open-ends print none now r (named now.readers r) (reader_called call now r) (ends now) in
     bar-ends print none barred r bars (then_applied (on_reader now r call)) (λ x at is. opened x at is)
 
 -- reads
-read_on-ends : (state : State) (r timeout most : ℕ) (line : Result (List ℕ) ReadFault → List ℕ) (x0 : ReaderAt) → 1 ≤ most → ((a : Result (List ℕ) ReadFault) → line a ≡ read_line [] → a ≡ Ok []) → reader_at state r ≡ Some x0
+read_on-ends : (state : State) (r timeout most : ℕ) (line : Result (List ℕ) ReadFault → List ℕ) (x0 : Reader) → 1 ≤ most → ((a : Result (List ℕ) ReadFault) → line a ≡ read_line [] → a ≡ Ok []) → named state.readers r ≡ Some x0
     → Ends read_line r (read_on state UntilShort r most timeout line x0)
 read_on-ends state r timeout most line x0 some none was =
     let w = reading state.host (state_of_reader x0) in
     let a = read_came host_calls true timeout most w in
     bar-ends read_line read-none state r (bars_read state UntilShort x0) (read_as state UntilShort r x0 line a) (λ x at is.
-    as-end state r x0 x (consumed_with UntilShort (map Byte (given_by a.answer)) x0.reader.consumed) (given_by a.answer) a.left was (empty_read_leaves_end timeout most w some (none a.answer is)) at)
+    as-end state r x0 x (consumed_with UntilShort (map Byte (given_by a.answer)) x0.consumed) (given_by a.answer) a.left was (empty_read_leaves_end timeout most w some (none a.answer is)) at)
 
-pub read-ends : (r most : ℕ) → 1 ≤ most → (state : State) (x : ReaderAt) → reader_at state r ≡ Some x → Ends read_line r (reader_called (readers.Read UntilShort most) state r x)
-read-ends r most some state x was = read_on-ends state r x.reader.bare.timeout most (given_line read_line) x some (given-none read_line read-none) was
+pub read-ends : (r most : ℕ) → 1 ≤ most → (state : State) (x : Reader) → named state.readers r ≡ Some x → Ends read_line r (reader_called (readers.Read UntilShort most) state r x)
+read-ends r most some state x was = read_on-ends state r x.bare.timeout most (given_line read_line) x some (given-none read_line read-none) was
 
-pub poll_read-ends : (r most : ℕ) → 1 ≤ most → (state : State) (x : ReaderAt) → reader_at state r ≡ Some x → Ends read_line r (reader_called (readers.PollRead UntilShort most) state r x)
+pub poll_read-ends : (r most : ℕ) → 1 ≤ most → (state : State) (x : Reader) → named state.readers r ≡ Some x → Ends read_line r (reader_called (readers.PollRead UntilShort most) state r x)
 poll_read-ends r most some state x was = read_on-ends state r 0 most (polled_given_line read_line) x some (polled-none read_line read-none) was
 
 -- and fills
-fill_on-ends : (state : State) (r timeout : ℕ) (line : Result (List ℕ) ReadFault → List ℕ) (x0 : ReaderAt) → ((a : Result (List ℕ) ReadFault) → line a ≡ buffer_line [] → a ≡ Ok []) → reader_at state r ≡ Some x0
+fill_on-ends : (state : State) (r timeout : ℕ) (line : Result (List ℕ) ReadFault → List ℕ) (x0 : Reader) → ((a : Result (List ℕ) ReadFault) → line a ≡ buffer_line [] → a ≡ Ok []) → named state.readers r ≡ Some x0
     → Ends buffer_line r (fill_on state UntilShort r timeout line x0)
 fill_on-ends state r timeout line x0 none was =
     let w = reading state.host (state_of_reader x0) in
     let a = fill_came host_calls true timeout w in
     bar-ends buffer_line buffer-none state r (bars_read state UntilShort x0) (filled_as state UntilShort r x0 line a) (λ x at is.
-    as-end state r x0 x (consumed_with UntilShort [] x0.reader.consumed) [] a.left was (empty_fill_leaves_end timeout w (none a.answer is)) at)
+    as-end state r x0 x (consumed_with UntilShort [] x0.consumed) [] a.left was (empty_fill_leaves_end timeout w (none a.answer is)) at)
 
-pub fill-ends : (r : ℕ) (state : State) (x : ReaderAt) → reader_at state r ≡ Some x → Ends buffer_line r (reader_called (readers.FillBuf UntilShort) state r x)
-fill-ends r state x was = fill_on-ends state r x.reader.bare.timeout (given_line buffer_line) x (given-none buffer_line buffer-none) was
+pub fill-ends : (r : ℕ) (state : State) (x : Reader) → named state.readers r ≡ Some x → Ends buffer_line r (reader_called (readers.FillBuf UntilShort) state r x)
+fill-ends r state x was = fill_on-ends state r x.bare.timeout (given_line buffer_line) x (given-none buffer_line buffer-none) was
 
-pub poll_fill-ends : (r : ℕ) (state : State) (x : ReaderAt) → reader_at state r ≡ Some x → Ends buffer_line r (reader_called (readers.PollFillBuf UntilShort) state r x)
+pub poll_fill-ends : (r : ℕ) (state : State) (x : Reader) → named state.readers r ≡ Some x → Ends buffer_line r (reader_called (readers.PollFillBuf UntilShort) state r x)
 poll_fill-ends r state x was = fill_on-ends state r 0 (polled_given_line buffer_line) x (polled-none buffer_line buffer-none) was
 
 -- the stream of a reader's endpoint
-pub prefix-at : (past : List Event) (x : ReaderAt) (consumed : List Mark) → FollowsAt past x consumed → IsPrefixOf consumed (stream_at past x.endpoint)
+pub prefix-at : (past : List Event) (x : Reader) (consumed : List Mark) → FollowsAt past x consumed → IsPrefixOf consumed (stream_at past x.endpoint)
 prefix-at past x consumed f =
     subst (λ (ts : List ℕ). IsPrefixOf consumed (stream_of x.endpoint.maximum (delivered ts past))) (take-append-drop x.endpoint.taken x.endpoint.tickets)
     (consumed_is_prefix past (state_of_reader x) (history_of x.endpoint consumed) f.follows)
 
-pub end-at : (past : List Event) (x : ReaderAt) (consumed : List Mark) → FollowsAt past x consumed → is_end (state_of_reader x) ≡ true → IsPrefixOf (consumed ++ End ∷ []) (stream_at past x.endpoint)
+pub end-at : (past : List Event) (x : Reader) (consumed : List Mark) → FollowsAt past x consumed → is_end (state_of_reader x) ≡ true → IsPrefixOf (consumed ++ End ∷ []) (stream_at past x.endpoint)
 end-at past x consumed f is =
     subst (λ (ts : List ℕ). IsPrefixOf (consumed ++ End ∷ []) (stream_of x.endpoint.maximum (delivered ts past))) (take-append-drop x.endpoint.taken x.endpoint.tickets)
     (end_is_next past (state_of_reader x) (history_of x.endpoint consumed) f.follows is)

@@ -1,6 +1,7 @@
 -- Framed readers follow their streams.
 use Rattle.std.proofs.Common.{◌≡◌, ◌∙◌, ℕ, ◌-◌, ◌≤◌, true, List, [], ◌∷◌, ◌++◌, take, drop, map, Option, Some, refl, ap, sym, subst}
 use Rattle.std.proofs.lemmas.Option.{none-some, same_Some}
+use Rattle.std.proofs.Math.Seq.{take-nil, drop-nil}
 use Rattle.usb_kernel.specs.declared.event.Event.{Event}
 use Rattle.usb_kernel.specs.Legal.{IsLawful}
 use Rattle.usb_device_endpoint.specs.EndpointState.{EndpointState}
@@ -18,10 +19,9 @@ use Rattle.usb_session_streams.proofs.FramedCalls.{lawful-before, follows-as, fr
 use Rattle.usb_script_words.specs.declared.framing.Framing.{Framing}
 use Rattle.usb_script_words.specs.declared.framing.Framing.TheVariants.{UntilShort}
 use Rattle.usb_session_calls.specs.BareReaders.{bare_of, reader_with}
-use Rattle.usb_session_calls.specs.State.{State, Endpoint, endpoint_state, tickets_of, with_host}
-use Rattle.usb_session_calls.specs.ReaderAt.{ReaderAt, state_of_reader}
+use Rattle.usb_session_calls.specs.State.{State, Endpoint, Reader, endpoint_state, state_of_reader, tickets_of, with_host}
 use Rattle.usb_session_calls.specs.Readers.{nothing_consumed}
-use Rattle.usb_session.proofs.StreamPlaces.{drop-nothing, take-nothing, called-parts}
+use Rattle.usb_session.proofs.TakenTickets.{called-parts}
 use Rattle.usb_session.proofs.ReadersKeep.{made_of, set_to, off_at, called_at, reading_at, Consumes, consumes-with, ReaderLaw}
 
 -- what a framed reader consumed, and which of its endpoint's tickets were taken
@@ -29,13 +29,13 @@ abbrev pub history_of : Endpoint → List Mark → History
 history_of h consumed = record { taken = take h.taken h.tickets; consumed = consumed }
 
 -- a reader of an IN endpoint follows its stream
-pub record FollowsAt (past : List Event) (x : ReaderAt) (consumed : List Mark) : Type 0 where
+pub record FollowsAt (past : List Event) (x : Reader) (consumed : List Mark) : Type 0 where
   pub input : 128 ≤ x.endpoint.address
   pub follows : Follows past (state_of_reader x) (history_of x.endpoint consumed)
 
 -- so it is of one that is framed
-abbrev pub IsFollowing : List Event → ReaderAt → Type 0
-IsFollowing past x = (consumed : List Mark) → x.reader.consumed ≡ Some consumed → FollowsAt past x consumed
+abbrev pub IsFollowing : List Event → Reader → Type 0
+IsFollowing past x = (consumed : List Mark) → x.consumed ≡ Some consumed → FollowsAt past x consumed
 
 -- as it is made it has consumed nothing
 nothing-is : (ts : List ℕ) (consumed : List Mark) → nothing_consumed ts ≡ Some consumed → (ts ≡ []) × (consumed ≡ [])
@@ -49,12 +49,12 @@ made-follows past h size input consumed is =
     record {
       input = input;
       follows =
-          follows-as past (state_of_reader x) no_history (take h.taken h.tickets) consumed (ap (take h.taken) none.0 ∙ take-nothing h.taken) none.1
-          (fresh_follows past (state_of_reader x) (ap (drop h.taken) none.0 ∙ drop-nothing h.taken) refl refl);
+          follows-as past (state_of_reader x) no_history (take h.taken h.tickets) consumed (ap (take h.taken) none.0 ∙ take-nil h.taken) none.1
+          (fresh_follows past (state_of_reader x) (ap (drop h.taken) none.0 ∙ drop-nil h.taken) refl refl);
     }
 
 -- behind a call
-step-follows : (state : State) (x : ReaderAt) (w : Reading HostState) (before : List Mark) (bytes : List ℕ) (now : Option (List Mark)) → w.reader.endpoint ≡ record (endpoint_state x.endpoint) { pending = w.reader.endpoint.pending } → 128 ≤ x.endpoint.address
+step-follows : (state : State) (x : Reader) (w : Reading HostState) (before : List Mark) (bytes : List ℕ) (now : Option (List Mark)) → w.reader.endpoint ≡ record (endpoint_state x.endpoint) { pending = w.reader.endpoint.pending } → 128 ≤ x.endpoint.address
     → GoesOnToFollow (reading_at state x) w (history_of x.endpoint before) bytes → FollowsAt w.bus.kernel.past (called_at state now bytes w x) (before ++ map Byte bytes)
 step-follows state x w before bytes now rest input g =
     let k = x.endpoint.taken in
@@ -71,7 +71,7 @@ step-follows state x w before bytes now rest input g =
           (follows-as w.bus.kernel.past w.reader (record { taken = take k ts ++ g.taken; consumed = before ++ map Byte bytes }) (take x'.endpoint.taken x'.endpoint.tickets) (before ++ map Byte bytes) parts.0 refl g.follows);
     }
 
-call-follows : (state : State) (call : ReaderCall) (now : Option (List Mark)) (x : ReaderAt) → Consumes (is_framed call) (map Byte (handed_by call (reading_at state x))) x.reader.consumed now
+call-follows : (state : State) (call : ReaderCall) (now : Option (List Mark)) (x : Reader) → Consumes (is_framed call) (map Byte (handed_by call (reading_at state x))) x.consumed now
     → IsLawful (read_by call (reading_at state x)).left.bus.kernel.past → IsFollowing state.host.kernel.past x
     → IsFollowing (read_by call (reading_at state x)).left.bus.kernel.past (called_at state now (handed_by call (reading_at state x)) (read_by call (reading_at state x)).left x)
 call-follows state call now x consumes lawful f consumed is =
@@ -85,15 +85,15 @@ call-follows state call now x consumes lawful f consumed is =
     (step-follows state x left b.before bytes now (reader_calls-go_on call w).endpoint was.input g)
 
 -- what is set is not what it follows by
-set-follows : (past : List Event) (n timeout : ℕ) (x : ReaderAt) → IsFollowing past x → IsFollowing past (set_to n timeout x)
+set-follows : (past : List Event) (n timeout : ℕ) (x : Reader) → IsFollowing past x → IsFollowing past (set_to n timeout x)
 set-follows past n timeout x f consumed is =
     let was = f consumed is in
     record { input = was.input; follows = record { mine = was.follows.mine; up = was.follows.up; reaped = was.follows.reaped; read = was.follows.read } }
 
 -- what stands is taken off
-read-follows : (past : List Event) (framing : Framing) (n : ℕ) (x : ReaderAt) → IsFollowing past x → IsFollowing past (off_at framing (map Byte (take n x.reader.bare.unread)) (take n x.reader.bare.unread) (with_read n (state_of_reader x)) x)
+read-follows : (past : List Event) (framing : Framing) (n : ℕ) (x : Reader) → IsFollowing past x → IsFollowing past (off_at framing (map Byte (take n x.bare.unread)) (take n x.bare.unread) (with_read n (state_of_reader x)) x)
 read-follows past framing n x f consumed is =
-    let b = consumes-with framing (map Byte (take n x.reader.bare.unread)) x.reader.consumed consumed is in
+    let b = consumes-with framing (map Byte (take n x.bare.unread)) x.consumed consumed is in
     let was = f b.before b.was in
     record {
       input = was.input;
@@ -102,9 +102,9 @@ read-follows past framing n x f consumed is =
           (reading_follows past (state_of_reader x) (history_of x.endpoint b.before) n was.follows);
     }
 
-end-follows : (past : List Event) (x : ReaderAt) → is_end (state_of_reader x) ≡ true → IsFollowing past x → IsFollowing past (off_at UntilShort (End ∷ []) [] (without_end (state_of_reader x)) x)
+end-follows : (past : List Event) (x : Reader) → is_end (state_of_reader x) ≡ true → IsFollowing past x → IsFollowing past (off_at UntilShort (End ∷ []) [] (without_end (state_of_reader x)) x)
 end-follows past x ended f consumed is =
-    let b = consumes-with UntilShort (End ∷ []) x.reader.consumed consumed is in
+    let b = consumes-with UntilShort (End ∷ []) x.consumed consumed is in
     let was = f b.before b.was in
     record {
       input = was.input;

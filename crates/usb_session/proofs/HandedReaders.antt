@@ -13,23 +13,21 @@ use Rattle.usb_session_streams.specs.Told.{IsComplete}
 use Rattle.usb_session_streams.specs.ReaderCalls.{read_by, handed_by}
 use Rattle.usb_session_streams.proofs.ReadsGoOn.{reader_calls-go_on}
 use Rattle.usb_session_streams.proofs.HandedCalls.{complete-later, bytes-later, bytes-append, calls-hand_over}
-use Rattle.usb_script_lines.specs.declared.item.Item.{Item}
-use Rattle.usb_session_calls.specs.State.{State, pending, tickets_of, with_host}
-use Rattle.usb_session_calls.specs.ReaderAt.{ReaderAt}
+use Rattle.usb_session_calls.specs.State.{State, Reader, pending, tickets_of, with_host}
 use Rattle.usb_session.specs.Output.{start, behind}
 use Rattle.usb_session.specs.Behind.{ScriptsGoOn}
 use Rattle.usb_session.specs.Handed.{IsHandedOver, ScriptsHandOver}
-use Rattle.usb_session.proofs.StreamPlaces.{called-parts}
-use Rattle.usb_session.proofs.ReadersKeep.{called_at, reading_at, ReaderLaw, AllReaders, each-reader, behind-all}
+use Rattle.usb_session.proofs.TakenTickets.{called-parts}
+use Rattle.usb_session.proofs.ReadersKeep.{called_at, reading_at, ReaderLaw, behind-all}
 
 -- the bytes of the tickets that a reader took are those that it handed over, and then those that are unread
-pub record HandsAt (past : List Event) (x : ReaderAt) : Type 0 where
+pub record HandsAt (past : List Event) (x : Reader) : Type 0 where
   pub taken : List ℕ
-  pub tickets : take x.endpoint.taken x.endpoint.tickets ≡ x.reader.before ++ taken
+  pub tickets : take x.endpoint.taken x.endpoint.tickets ≡ x.before ++ taken
   pub complete : All (IsComplete past) taken
-  pub bytes : completed_bytes past taken ≡ x.reader.given ++ x.reader.bare.unread
+  pub bytes : completed_bytes past taken ≡ x.given ++ x.bare.unread
 
-is-handed : (past : List Event) (x : ReaderAt) → HandsAt past x → IsHandedOver past x
+is-handed : (past : List Event) (x : Reader) → HandsAt past x → IsHandedOver past x
 is-handed past x f =
     record {
       taken = f.taken;
@@ -37,14 +35,14 @@ is-handed past x f =
       complete = f.complete;
       bytes = f.bytes;
       prefix = (
-        x.reader.bare.unread ++ completed_bytes past (pending x.endpoint),
-        sym (append_assoc x.reader.given x.reader.bare.unread (completed_bytes past (pending x.endpoint)))
+        x.bare.unread ++ completed_bytes past (pending x.endpoint),
+        sym (append_assoc x.given x.bare.unread (completed_bytes past (pending x.endpoint)))
             ∙ ap (λ (bytes : List ℕ). bytes ++ completed_bytes past (pending x.endpoint)) (sym f.bytes)
             ∙ sym (bytes-append past f.taken (pending x.endpoint)),
       );
     }
 
-at-later : (old new : List Event) (x : ReaderAt) → Extends old new → HandsAt old x → HandsAt new x
+at-later : (old new : List Event) (x : Reader) → Extends old new → HandsAt old x → HandsAt new x
 at-later old new x extends f =
     record {
       taken = f.taken;
@@ -54,7 +52,7 @@ at-later old new x extends f =
     }
 
 -- behind a call, which handed over these bytes
-step-hands : (state : State) (x : ReaderAt) (w : Reading HostState) (now : Option (List Mark)) (bytes : List ℕ) → Extends state.host.kernel.past w.bus.kernel.past → HandsOver (reading_at state x) w bytes → HandsAt state.host.kernel.past x
+step-hands : (state : State) (x : Reader) (w : Reading HostState) (now : Option (List Mark)) (bytes : List ℕ) → Extends state.host.kernel.past w.bus.kernel.past → HandsOver (reading_at state x) w bytes → HandsAt state.host.kernel.past x
     → HandsAt w.bus.kernel.past (called_at state now bytes w x)
 step-hands state x w now bytes extends g f =
     let old = state.host.kernel.past in
@@ -64,14 +62,14 @@ step-hands state x w now bytes extends g f =
     let last = completed_bytes new g.taken in
     record {
       taken = f.taken ++ g.taken;
-      tickets = parts.0 ∙ ap (λ (l : List ℕ). l ++ g.taken) f.tickets ∙ append_assoc x.reader.before f.taken g.taken;
+      tickets = parts.0 ∙ ap (λ (l : List ℕ). l ++ g.taken) f.tickets ∙ append_assoc x.before f.taken g.taken;
       complete = All-append (IsComplete new) f.taken g.taken (complete-later old new f.taken extends f.complete) g.complete;
       bytes =
           bytes-append new f.taken g.taken
           ∙ ap (λ (l : List ℕ). l ++ last) (bytes-later old new f.taken extends f.complete ∙ f.bytes)
-          ∙ append_assoc x.reader.given x.reader.bare.unread last
-          ∙ ap (λ (l : List ℕ). x.reader.given ++ l) g.bytes
-          ∙ sym (append_assoc x.reader.given bytes w.reader.unread);
+          ∙ append_assoc x.given x.bare.unread last
+          ∙ ap (λ (l : List ℕ). x.given ++ l) g.bytes
+          ∙ sym (append_assoc x.given bytes w.reader.unread);
     }
 
 -- no journal is asked for
@@ -89,27 +87,24 @@ handing =
           let w = reading_at state x in
           step-hands state x (read_by call w).left now (handed_by call w) (reader_calls-go_on call w).past (calls-hand_over call w) f;
       read = λ past framing n x f.
-          let unread = x.reader.bare.unread in
+          let unread = x.bare.unread in
           record {
             taken = f.taken;
             tickets = f.tickets;
             complete = f.complete;
-            bytes = f.bytes ∙ ap (λ (l : List ℕ). x.reader.given ++ l) (sym (take-append-drop n unread)) ∙ sym (append_assoc x.reader.given (take n unread) (drop n unread));
+            bytes = f.bytes ∙ ap (λ (l : List ℕ). x.given ++ l) (sym (take-append-drop n unread)) ∙ sym (append_assoc x.given (take n unread) (drop n unread));
           };
       ended = λ past x is f.
           record {
             taken = f.taken;
             tickets = f.tickets;
             complete = f.complete;
-            bytes = f.bytes ∙ ap (λ (l : List ℕ). l ++ x.reader.bare.unread) (sym (append-nil x.reader.given));
+            bytes = f.bytes ∙ ap (λ (l : List ℕ). l ++ x.bare.unread) (sym (append-nil x.given));
           };
     }
 
 -- behind the lines of a script
-hand-at : ScriptsGoOn → (items before : List Item) → AllReaders HandsAt (behind (start items) before)
-hand-at go items before = behind-all HandsAt AnyPast handing go items before tt
-
 pub hand-by : ScriptsGoOn → ScriptsHandOver
 hand-by go items before after all r x at =
     let state = behind (start items) before in
-    is-handed state.host.kernel.past x (each-reader HandsAt state r x (hand-at go items before) at)
+    is-handed state.host.kernel.past x (behind-all HandsAt AnyPast handing go items before tt r x at)

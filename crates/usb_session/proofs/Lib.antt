@@ -21,8 +21,6 @@ pub mod ClaimCode
 pub mod OrderLemmas
 pub mod PlaceLemmas
 pub mod PrintLemmas
-pub mod ReaderCalled
-pub mod ReaderCloses
 pub mod ReaderMoves
 pub mod ReaderDoes
 pub mod RunLemmas
@@ -41,8 +39,9 @@ pub mod WorkedStreams
 pub mod TreeAnswers
 pub mod TreeLines
 pub mod OtherLines
-pub mod StreamPlaces
-pub mod WritersLeave
+pub mod Barred
+pub mod TakenTickets
+pub mod StreamsLeave
 pub mod LinesBehind
 pub mod StreamsKeep
 pub mod ReadersKeep
@@ -52,8 +51,7 @@ pub mod FramedBehind
 pub mod FramedScripts
 pub mod Moves
 pub mod WriterMoves
-pub mod WriterCloses
-pub mod ReadersLeave
+
 pub mod WrittenWriters
 pub mod WrittenLaw
 pub mod PrintedLaw
@@ -64,7 +62,7 @@ pub mod WorkedPrinted
 pub mod HandedReaders
 pub mod HandedScripts
 pub mod WorkedHanded
-pub mod WriterCalled
 pub mod Lent
 pub mod TakenOut
-pub mod OpenPlaces
+pub mod KeptNames
+pub mod Replaced

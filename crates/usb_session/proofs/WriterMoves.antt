@@ -1,178 +1,132 @@
 -- An endpoint becomes a writer's, or comes back.
-use Rattle.std.proofs.Common.{◌≡◌, ◌≢◌, ℕ, ◌≤◌, List, length, map, Option, Some, None, true, false, refl, ap, sym, ◌∙◌, subst}
-use Rattle.std.specs.Prelude.{if◌then◌else◌}
+use Rattle.std.proofs.Common.{◌≡◌, ◌≢◌, ℕ, ◌≤◌, List, length, Option, Some, None, true, false, refl, ap, sym, ◌∙◌, subst}
 use Rattle.std.specs.Option.{option_map}
-use Rattle.std.proofs.lemmas.List.{length-map}
 use Rattle.usb_desc.specs.declared.types.Direction.TheVariants.{Out}
 use Rattle.usb_desc.specs.Fields.{direction_of_address}
 use Rattle.usb_device_endpoint.specs.EndpointState.{EndpointState}
+use Rattle.usb_device_host.specs.HostState.{HostState}
 use Rattle.usb_io.specs.Writers.{WriterState, fresh_writer}
 use Rattle.usb_session_text.specs.Calls.{condition_line, ok_line}
-use Rattle.usb_session.specs.declared.session.Session.TheInside.{Inside}
 use Rattle.usb_session_calls.specs.Names.{named, is_free, freed, set_name}
-use Rattle.usb_session_calls.proofs.NameLemmas.{length-freed, length-set_name, map-freed, map-set, is_free-map}
+use Rattle.usb_session_calls.specs.EndpointNames.{Own, OfWriter, endpoint_under}
 use Rattle.usb_session_calls.specs.BareWriters.{bare_writer}
-use Rattle.usb_session_calls.specs.State.{State, Endpoint, Writer, endpoint_state}
-use Rattle.usb_session_calls.specs.ReaderAt.{endpoint_place}
-use Rattle.usb_session_calls.specs.WriterAt.{WriterAt, writer_place, writer_at}
+use Rattle.usb_session_calls.specs.State.{State, Endpoint, Reader, Writer, endpoint_state, state_of_writer}
 use Rattle.usb_session_calls.specs.Readers.{as_streamed}
-use Rattle.usb_session_calls.specs.Writers.{with_writer, is_free_writer, writer_on, writer_answer, without_writer, writer_inner_answer}
+use Rattle.usb_session_calls.specs.Writers.{nothing_called, with_writer, writer_on, writer_answer, without_writer, writer_inner_answer}
 use Rattle.usb_session_calls.specs.Submits.{has_direction}
-use Rattle.usb_session_calls.specs.Answer.{condition_answer, ok_answer, if_open}
-use Rattle.usb_session_calls.specs.SessionState.{SessionState, IsSound}
-use Rattle.usb_session_calls.specs.SessionParts.{session_made, writer_endpoint, bare_writer_of, endpoints_with}
-use Rattle.usb_session.specs.SessionFacts.{made_of}
+use Rattle.usb_session_calls.specs.Answer.{ok_answer}
+use Rattle.usb_session_calls.specs.SessionState.{SessionState, IsSound, open_under}
 use Rattle.usb_session_calls.specs.Relation.{Represents}
-use Rattle.usb_session_calls.proofs.Answering.{Gives, barred-gives, free_kept, none_kept}
-use Rattle.usb_session_calls.proofs.Called.{open_at, sound-writers, represents-writers}
-use Rattle.usb_session.proofs.OpenPlaces.{HasPlaces, free-endpoint, freed-endpoint, set-endpoint, taken-endpoint, free-writer, freed-writer, set-writer, taken-writer}
-use Rattle.usb_session.proofs.TakenOut.{places-made, none_made}
-use Rattle.usb_session.proofs.Moves.{Moves, sound-moved, represents-moved, is-direction, not-direction, barred-direction}
-use Rattle.usb_session.proofs.WriterCalled.{bare-made, has_writer, no_writer_at}
+use Rattle.usb_session_calls.proofs.Answering.{Gives, barred-gives, host_is}
+use Rattle.usb_session_calls.proofs.EndpointNameLemmas.{writer-changed, set-changes, freed-changes}
+use Rattle.usb_session_calls.proofs.NameLemmas.{free-none, length-freed, length-set_name}
+use Rattle.usb_session_calls.proofs.Called.{own-open, writer-open, few-put, state_with, represents-open, represents-freed, represents-set, represents-writer_freed, endpoints_kept, readers_kept, writers_kept, set-kept}
+use Rattle.usb_session.proofs.KeptNames.{kept-at, kept-none, kept-free}
+use Rattle.usb_session.proofs.Replaced.{writer_endpoint}
+use Rattle.usb_session.proofs.Moves.{Moves, sound-moved, is-direction, not-direction, barred-used, barred-direction}
 
--- a session with other endpoints and writers
-abbrev pub made_both : Inside → List (Option EndpointState) → List (Option WriterState) → SessionState
-made_both i endpoints writers = session_made i.tree i.watch i.host i.devices.items i.interfaces.items endpoints i.readers.items writers i.futures.items
+-- a writer is open under a name that was free
+represents-made : (s : SessionState) (state : State) (now : HostState) (n : ℕ) (x : Writer) → Represents s state → is_free state.writers n ≡ true → x.endpoint.taken ≤ length x.endpoint.tickets
+    → Represents (record s { host = now; writers = set_name s.writers n (state_of_writer x) }) (record state { host = now; writers = set_name state.writers n x })
+represents-made s state now n x is free few =
+    represents-open s state now s.endpoints s.readers (set_name s.writers n (state_of_writer x)) state.endpoints state.readers (set_name state.writers n x) is
+    (endpoints_kept s state is) (readers_kept s state is) (set-kept state_of_writer state.writers s.writers n x (writers_kept s state is))
+    (few-put (endpoint_under state) (endpoint_under (state_with state now state.endpoints state.readers (set_name state.writers n x))) (OfWriter n) x.endpoint
+    (writer-changed (λ (z : Reader). z.endpoint) (λ (z : Writer). z.endpoint) state.endpoints state.readers state.writers (set_name state.writers n x) n (Some x) (set-changes state.writers n x free)) few is.few)
 
--- an endpoint that stands under the name e is moved to the place of the writer w, or back
-module _ (i : Inside) (sound : IsSound (made_of i)) (e w : ℕ) where
-  endpoints_freed : HasPlaces (freed i.endpoints.items e) i.readers.items i.writers.items
-  endpoints_freed = let places = places-made i sound in record { endpoints = length-freed i.endpoints.items e ∙ places.endpoints; readers = places.readers; writers = places.writers }
-
-  writers_freed : HasPlaces i.endpoints.items i.readers.items (freed i.writers.items w)
-  writers_freed = let places = places-made i sound in record { endpoints = places.endpoints; readers = places.readers; writers = length-freed i.writers.items w ∙ places.writers }
-
-  moves-there : (x : EndpointState) (y : WriterState) → named i.endpoints.items e ≡ Some x → is_free i.writers.items w ≡ true → writer_endpoint y ≡ x
-      → Moves (made_of i) (endpoints_with (freed i.endpoints.items e) i.readers.items (set_name i.writers.items w y)) (endpoint_place e) (writer_place w) x
-  moves-there x y was free same =
-      let left = freed-endpoint i.endpoints.items i.readers.items i.writers.items (places-made i sound) e in
+-- the endpoint of the name e, and the writer of the name w
+module _ (s : SessionState) (e w : ℕ) where
+  -- what was open under the one is open under the other
+  made : (y : WriterState) → named s.endpoints e ≡ Some y.endpoint → is_free s.writers w ≡ true → Moves (open_under s) (open_under (record s { endpoints = freed s.endpoints e; writers = set_name s.writers w y })) (Own e) (OfWriter w) y.endpoint
+  made y was free =
+      let mid : SessionState = record s { endpoints = freed s.endpoints e } in
       record {
-        was = taken-endpoint i.endpoints.items i.readers.items i.writers.items (places-made i sound) e x was;
-        free = ap (λ l. is_free l (writer_place w)) (sym left) ∙ free-writer (freed i.endpoints.items e) i.readers.items i.writers.items endpoints_freed w ∙ free;
-        put =
-            set-writer (freed i.endpoints.items e) i.readers.items i.writers.items endpoints_freed w y
-            ∙ ap (λ l. set_name l (writer_place w) (writer_endpoint y)) left
-            ∙ ap (set_name (freed (made_of i).endpoints (endpoint_place e)) (writer_place w)) same;
+        mid = open_under mid;
+        was = was;
+        gone = own-open s s.host e (freed s.endpoints e) None (freed-changes s.endpoints e);
+        free = ap (option_map writer_endpoint) (free-none s.writers w free);
+        put = writer-open mid s.host w (set_name s.writers w y) (Some y) (set-changes s.writers w y free);
       }
 
-  moves-back : (x : WriterState) (y : EndpointState) → named i.writers.items w ≡ Some x → is_free i.endpoints.items e ≡ true → y ≡ writer_endpoint x
-      → Moves (made_of i) (endpoints_with (set_name i.endpoints.items e y) i.readers.items (freed i.writers.items w)) (writer_place w) (endpoint_place e) (writer_endpoint x)
-  moves-back x y was free same =
-      let places = places-made i sound in
-      let left = freed-writer i.endpoints.items i.readers.items i.writers.items places w in
+  given_back : (y : WriterState) → named s.writers w ≡ Some y → is_free s.endpoints e ≡ true → Moves (open_under s) (open_under (record s { endpoints = set_name s.endpoints e y.endpoint; writers = freed s.writers w })) (OfWriter w) (Own e) y.endpoint
+  given_back y was free =
+      let mid : SessionState = record s { writers = freed s.writers w } in
       record {
-        was = taken-writer i.endpoints.items i.readers.items i.writers.items places w x was;
-        free = ap (λ l. is_free l (endpoint_place e)) (sym left) ∙ free-endpoint i.endpoints.items i.readers.items (freed i.writers.items w) writers_freed e ∙ free;
-        put =
-            set-endpoint i.endpoints.items i.readers.items (freed i.writers.items w) writers_freed e y
-            ∙ ap (λ l. set_name l (endpoint_place e) y) left
-            ∙ ap (set_name (freed (made_of i).endpoints (writer_place w)) (endpoint_place e)) same;
+        mid = open_under mid;
+        was = ap (option_map writer_endpoint) was;
+        gone = writer-open s s.host w (freed s.writers w) None (freed-changes s.writers w);
+        free = free-none s.endpoints e free;
+        put = own-open mid s.host e (set_name s.endpoints e y.endpoint) (Some y.endpoint) (set-changes s.endpoints e y.endpoint free);
       }
 
   -- a writer is made
-  pub made-sound : (x : EndpointState) (y : WriterState) → named i.endpoints.items e ≡ Some x → is_free i.writers.items w ≡ true → writer_endpoint y ≡ x → IsSound (made_both i (freed i.endpoints.items e) (set_name i.writers.items w y))
-  made-sound x y was free same =
-      let after = endpoints_with (freed i.endpoints.items e) i.readers.items (set_name i.writers.items w y) in
-      sound-writers (record (made_of i) { endpoints = after }) (map (option_map bare_writer_of) (set_name i.writers.items w y))
-      (sound-moved (made_of i) after (endpoint_place e) (writer_place w) x sound (moves-there x y was free same))
-      (length-map (set_name i.writers.items w y) (option_map bare_writer_of) ∙ length-set_name i.writers.items w y ∙ sym (length-map i.writers.items (option_map bare_writer_of)))
+  module _ (es : List (Option EndpointState)) (xs : List (Option WriterState)) (x : EndpointState) (y : WriterState) (was : named s.endpoints e ≡ Some x) (free : is_free s.writers w ≡ true) (rest : es ≡ freed s.endpoints e) (put : xs ≡ set_name s.writers w y) where
+    pub made-sound : IsSound s → y.endpoint ≡ x → IsSound (record s { endpoints = es; writers = xs })
+    made-sound sound same =
+        rw (rest, put)
+        (sound-moved s (freed s.endpoints e) s.readers (set_name s.writers w y) (Own e) (OfWriter w) y.endpoint sound
+        (record { endpoints = length-freed s.endpoints e; readers = refl; writers = length-set_name s.writers w y }) (made y (was ∙ ap (λ z. Some z) (sym same)) free))
 
-  pub given-sound : (x : WriterState) (y : EndpointState) → named i.writers.items w ≡ Some x → is_free i.endpoints.items e ≡ true → y ≡ writer_endpoint x → IsSound (made_both i (set_name i.endpoints.items e y) (freed i.writers.items w))
-  given-sound x y was free same =
-      let after = endpoints_with (set_name i.endpoints.items e y) i.readers.items (freed i.writers.items w) in
-      sound-writers (record (made_of i) { endpoints = after }) (map (option_map bare_writer_of) (freed i.writers.items w))
-      (sound-moved (made_of i) after (writer_place w) (endpoint_place e) (writer_endpoint x) sound (moves-back x y was free same))
-      (length-map (freed i.writers.items w) (option_map bare_writer_of) ∙ length-freed i.writers.items w ∙ sym (length-map i.writers.items (option_map bare_writer_of)))
+    pub writer-gives : (size : ℕ) → y ≡ fresh_writer x size → direction_of_address x.address ≡ Out → (state : State) → Represents s state → Gives (record s { endpoints = es; writers = xs }) ok_line (writer_answer state w e size)
+    unfolding writer_answer
+    writer-gives size fresh direction state is =
+        let k = kept-at endpoint_state state.endpoints s.endpoints (endpoints_kept s state is) e x was in
+        let h = k.entry in
+        let new : Writer = record { endpoint = as_streamed h; bare = bare_writer (fresh_writer (endpoint_state h) size); calls = nothing_called h.tickets } in
+        let there : is_free state.writers w ≡ true = kept-free state_of_writer state.writers s.writers (writers_kept s state is) w ∙ free in
+        let same : state_of_writer new ≡ y = ap (λ (z : EndpointState). fresh_writer z size) k.same ∙ sym fresh in
+        let input : has_direction Out (endpoint_state h) ≡ true = ap (has_direction Out) k.same ∙ is-direction Out x direction in
+        rw (k.is, there, input, rest, put, ← same)
+        (record {
+          state = subst (λ (host : HostState). Represents (record s { endpoints = freed s.endpoints e; writers = set_name s.writers w (state_of_writer new) }) (record state { host = host; endpoints = freed state.endpoints e; writers = set_name state.writers w new })) (host_is s state is)
+              (represents-made (record s { endpoints = freed s.endpoints e }) (record state { host = s.host; endpoints = freed state.endpoints e }) s.host w new (represents-freed s state s.host e is) there (is.few (Own e) h k.is));
+          same = refl;
+        })
 
-  -- the names of writers in the state
-  free-bare : (state : State) → Represents (made_of i) state → is_free state.writers w ≡ is_free i.writers.items w
-  free-bare state is =
-      sym (ap (λ (v : SessionState). is_free v.writers w) is.is ∙ is_free-map (λ (x : Writer). x.bare) state.writers w) ∙ is_free-map bare_writer_of i.writers.items w
+  -- or its name is in use, nothing is open under the endpoint's, or that is not an OUT endpoint
+  pub writer-used : (size : ℕ) (state : State) → is_free s.writers w ≡ false → Represents s state → Gives s condition_line (writer_answer state w e size)
+  unfolding writer_answer
+  writer-used size state used is =
+      barred-used s state (named state.endpoints e) (is_free state.writers w) _ is (kept-free state_of_writer state.writers s.writers (writers_kept s state is) w ∙ used)
 
-  free-place : (state : State) → Represents (made_of i) state → is_free i.writers.items w ≡ true → is_free state.endpoints (writer_place w) ≡ true
-  free-place state is free =
-      sym (free_kept (made_of i) state (writer_place w) is) ∙ free-writer i.endpoints.items i.readers.items i.writers.items (places-made i sound) w ∙ free
+  pub writer-none : (size : ℕ) (state : State) → named s.endpoints e ≡ None → Represents s state → Gives s condition_line (writer_answer state w e size)
+  unfolding writer_answer
+  writer-none size state none is = rw (kept-none endpoint_state state.endpoints s.endpoints (endpoints_kept s state is) e none) (barred-gives s state is)
 
-  free-own : (state : State) → Represents (made_of i) state → is_free state.endpoints (endpoint_place e) ≡ is_free i.endpoints.items e
-  free-own state is = sym (free_kept (made_of i) state (endpoint_place e) is) ∙ free-endpoint i.endpoints.items i.readers.items i.writers.items (places-made i sound) e
+  pub writer-in : (size : ℕ) (x : EndpointState) (state : State) → named s.endpoints e ≡ Some x → direction_of_address x.address ≢ Out → Represents s state → Gives s condition_line (writer_answer state w e size)
+  unfolding writer_answer
+  writer-in size x state was other is =
+      let k = kept-at endpoint_state state.endpoints s.endpoints (endpoints_kept s state is) e x was in
+      let direction : has_direction Out (endpoint_state k.entry) ≡ false = ap (has_direction Out) k.same ∙ not-direction Out x other in
+      rw (k.is, direction) (barred-direction s state (is_free state.writers w) (ok_answer (with_writer state w e size k.entry)) is)
 
-  writer-represents : (x : EndpointState) (y : WriterState) (size : ℕ) (state : State) (h : Endpoint) → named i.endpoints.items e ≡ Some x → is_free i.writers.items w ≡ true → y ≡ fresh_writer x size → Represents (made_of i) state → endpoint_state h ≡ x → h.taken ≤ length h.tickets
-      → Represents (made_both i (freed i.endpoints.items e) (set_name i.writers.items w y)) (with_writer state w (endpoint_place e) size h)
-  writer-represents x y size state h was free fresh is same few =
-      let after = endpoints_with (freed i.endpoints.items e) i.readers.items (set_name i.writers.items w y) in
-      let endpoint : writer_endpoint y ≡ x = ap (λ (z : WriterState). z.endpoint) fresh in
-      let moved_ = represents-moved (made_of i) state after (endpoint_place e) (writer_place w) x (as_streamed h) is (moves-there x y was free endpoint) same few in
-      let now = with_writer state w (endpoint_place e) size h in
-      represents-writers (record (made_of i) { endpoints = after }) (record state { endpoints = now.endpoints }) (map (option_map bare_writer_of) (set_name i.writers.items w y)) now.writers moved_
-      (map-set bare_writer_of i.writers.items w y
-      ∙ ap (set_name (map (option_map bare_writer_of) i.writers.items) w) (ap bare_writer (fresh ∙ ap (λ (z : EndpointState). fresh_writer z size) (sym same)))
-      ∙ ap (λ (v : SessionState). set_name v.writers w (bare_writer (fresh_writer (endpoint_state h) size))) is.is
-      ∙ sym (map-set (λ (z : Writer). z.bare) state.writers w _))
+  -- the endpoint of a writer comes back
+  module _ (es : List (Option EndpointState)) (xs : List (Option WriterState)) (x : EndpointState) (y : WriterState) (was : named s.writers w ≡ Some y) (free : is_free s.endpoints e ≡ true) (same : x ≡ y.endpoint) (put : es ≡ set_name s.endpoints e x) (rest : xs ≡ freed s.writers w) where
+    pub given-sound : IsSound s → IsSound (record s { endpoints = es; writers = xs })
+    given-sound sound =
+        rw (put, rest, same)
+        (sound-moved s (set_name s.endpoints e y.endpoint) s.readers (freed s.writers w) (OfWriter w) (Own e) y.endpoint sound
+        (record { endpoints = length-set_name s.endpoints e y.endpoint; readers = refl; writers = length-freed s.writers w }) (given_back y was free))
 
-  inner-represents : (x : WriterState) (y : EndpointState) (state : State) (at : WriterAt) → named i.writers.items w ≡ Some x → is_free i.endpoints.items e ≡ true → y ≡ writer_endpoint x → Represents (made_of i) state → endpoint_state at.endpoint ≡ writer_endpoint x → at.endpoint.taken ≤ length at.endpoint.tickets
-      → Represents (made_both i (set_name i.endpoints.items e y) (freed i.writers.items w)) (without_writer state (endpoint_place e) w at)
-  inner-represents x y state at was free given is same few =
-      let after = endpoints_with (set_name i.endpoints.items e y) i.readers.items (freed i.writers.items w) in
-      let moved_ = represents-moved (made_of i) state after (writer_place w) (endpoint_place e) (writer_endpoint x) at.endpoint is (moves-back x y was free given) same few in
-      let now = without_writer state (endpoint_place e) w at in
-      represents-writers (record (made_of i) { endpoints = after }) (record state { endpoints = now.endpoints }) (map (option_map bare_writer_of) (freed i.writers.items w)) now.writers moved_
-      (map-freed bare_writer_of i.writers.items w ∙ ap (λ (v : SessionState). freed v.writers w) is.is ∙ sym (map-freed (λ (z : Writer). z.bare) state.writers w))
+    pub inner-gives : (state : State) → Represents s state → Gives (record s { endpoints = es; writers = xs }) ok_line (writer_inner_answer state e w)
+    unfolding writer_inner_answer
+    inner-gives state is =
+        let k = kept-at state_of_writer state.writers s.writers (writers_kept s state is) w y was in
+        let own : is_free state.endpoints e ≡ true = kept-free endpoint_state state.endpoints s.endpoints (endpoints_kept s state is) e ∙ free in
+        let seen : endpoint_state k.entry.endpoint ≡ x = ap writer_endpoint k.same ∙ sym same in
+        rw (k.is, own, put, rest, ← seen)
+        (record {
+          state = subst (λ (host : HostState). Represents (record s { endpoints = set_name s.endpoints e (endpoint_state k.entry.endpoint); writers = freed s.writers w }) (record state { host = host; endpoints = set_name state.endpoints e k.entry.endpoint; writers = freed state.writers w })) (host_is s state is)
+              (represents-set (record s { writers = freed s.writers w }) (record state { host = s.host; writers = freed state.writers w }) s.host e k.entry.endpoint (represents-writer_freed s state s.host w is) own (is.few (OfWriter w) k.entry.endpoint (ap (option_map (λ (z : Writer). z.endpoint)) k.is)));
+          same = refl;
+        })
 
--- what `writer` answers: the endpoint is a writer's
-pub writer-gives : (i : Inside) (sound : IsSound (made_of i)) (e w : ℕ) (x : EndpointState) (y : WriterState) (size : ℕ) (state : State) → named i.endpoints.items e ≡ Some x → is_free i.writers.items w ≡ true → y ≡ fresh_writer x size → direction_of_address x.address ≡ Out → Represents (made_of i) state
-    → Gives (made_both i (freed i.endpoints.items e) (set_name i.writers.items w y)) ok_line (writer_answer state w (endpoint_place e) size)
-unfolding writer_answer
-writer-gives i sound e w x y size state was free fresh output is =
-    let o = open_at (made_of i) state (endpoint_place e) x is (taken-endpoint i.endpoints.items i.readers.items i.writers.items (places-made i sound) e x was) in
-    let bare : is_free state.writers w ≡ true = free-bare i sound e w state is ∙ free in
-    let place : is_free state.endpoints (writer_place w) ≡ true = free-place i sound e w state is free in
-    let direction : has_direction Out (endpoint_state o.entry) ≡ true = ap (has_direction Out) o.same ∙ is-direction Out x output in
-    rw (o.is, bare, place, direction) (record { state = writer-represents i sound e w x y size state o.entry was free fresh is o.same o.few; same = refl })
+  -- or its name is in use, or no writer is open under that name
+  pub inner-used : (state : State) → is_free s.endpoints e ≡ false → Represents s state → Gives s condition_line (writer_inner_answer state e w)
+  unfolding writer_inner_answer
+  inner-used state used is =
+      barred-used s state (named state.writers w) (is_free state.endpoints e) (λ x. ok_answer (without_writer state e w x)) is (kept-free endpoint_state state.endpoints s.endpoints (endpoints_kept s state is) e ∙ used)
 
--- or its name is in use, nothing is open under the endpoint's, or that is not an OUT endpoint
-used-gives : (s : SessionState) (state : State) (w p size : ℕ) (o : Option Endpoint) → Represents s state → is_free state.writers w ≡ false → Gives s condition_line (if_open o (writer_on state w p size) (condition_answer state))
-used-gives s state w p size None is used = barred-gives s state is
-used-gives s state w p size (Some h) is used = rw used (barred-gives s state is)
-
-pub writer-used : (i : Inside) (sound : IsSound (made_of i)) (e w size : ℕ) (state : State) → is_free i.writers.items w ≡ false → Represents (made_of i) state → Gives (made_of i) condition_line (writer_answer state w (endpoint_place e) size)
-unfolding writer_answer
-writer-used i sound e w size state used is = used-gives (made_of i) state w (endpoint_place e) size (named state.endpoints (endpoint_place e)) is (free-bare i sound e w state is ∙ used)
-
-pub writer-none : (i : Inside) (sound : IsSound (made_of i)) (e w size : ℕ) (state : State) → named i.endpoints.items e ≡ None → Represents (made_of i) state → Gives (made_of i) condition_line (writer_answer state w (endpoint_place e) size)
-unfolding writer_answer
-writer-none i sound e w size state none is =
-    rw (none_kept (made_of i) state (endpoint_place e) is (none_made i (made_of i) e sound refl none)) (barred-gives (made_of i) state is)
-
-pub writer-in : (i : Inside) (sound : IsSound (made_of i)) (e w size : ℕ) (x : EndpointState) (state : State) → named i.endpoints.items e ≡ Some x → direction_of_address x.address ≢ Out → Represents (made_of i) state → Gives (made_of i) condition_line (writer_answer state w (endpoint_place e) size)
-unfolding writer_answer
-writer-in i sound e w size x state was other is =
-    let o = open_at (made_of i) state (endpoint_place e) x is (taken-endpoint i.endpoints.items i.readers.items i.writers.items (places-made i sound) e x was) in
-    let direction : has_direction Out (endpoint_state o.entry) ≡ false = ap (has_direction Out) o.same ∙ not-direction Out x other in
-    rw (o.is, direction) (barred-direction (made_of i) state (is_free_writer state w) (ok_answer (with_writer state w (endpoint_place e) size o.entry)) is)
-
--- what `inner` answers: the endpoint comes back
-pub inner-gives : (i : Inside) (sound : IsSound (made_of i)) (e w : ℕ) (x : WriterState) (y : EndpointState) (state : State) → named i.writers.items w ≡ Some x → is_free i.endpoints.items e ≡ true → y ≡ writer_endpoint x → Represents (made_of i) state
-    → Gives (made_both i (set_name i.endpoints.items e y) (freed i.writers.items w)) ok_line (writer_inner_answer state (endpoint_place e) w)
-unfolding writer_inner_answer
-inner-gives i sound e w x y state was free given is =
-    let endpoint = taken-writer i.endpoints.items i.readers.items i.writers.items (places-made i sound) w x was in
-    let o = has_writer (made_of i) state w x is endpoint (bare-made i (made_of i) w x refl was) in
-    let own : is_free state.endpoints (endpoint_place e) ≡ true = free-own i sound e w state is ∙ free in
-    rw (o.has.is, own) (record { state = inner-represents i sound e w x y state o.at was free given is (ap (λ (z : WriterState). z.endpoint) o.has.same) o.few; same = refl })
-
--- or its name is in use, or no writer is open under that name
-inner_used-gives : (s : SessionState) (state : State) (p w : ℕ) (o : Option WriterAt) → Represents s state → is_free state.endpoints p ≡ false → Gives s condition_line (if_open o (λ x. if is_free state.endpoints p then ok_answer (without_writer state p w x) else condition_answer state) (condition_answer state))
-inner_used-gives s state p w None is used = barred-gives s state is
-inner_used-gives s state p w (Some x) is used = rw used (barred-gives s state is)
-
-pub inner-used : (i : Inside) (sound : IsSound (made_of i)) (e w : ℕ) (state : State) → is_free i.endpoints.items e ≡ false → Represents (made_of i) state → Gives (made_of i) condition_line (writer_inner_answer state (endpoint_place e) w)
-unfolding writer_inner_answer
-inner-used i sound e w state used is = inner_used-gives (made_of i) state (endpoint_place e) w (writer_at state w) is (free-own i sound e w state is ∙ used)
-
-pub inner-none : (i : Inside) (sound : IsSound (made_of i)) (e w : ℕ) (state : State) → named i.writers.items w ≡ None → Represents (made_of i) state → Gives (made_of i) condition_line (writer_inner_answer state (endpoint_place e) w)
-unfolding writer_inner_answer
-inner-none i sound e w state none is = rw (no_writer_at i i.host w w none refl state is) (barred-gives (made_of i) state is)
-
--- by what the code left
-pub both-same : (P : SessionState → Type 0) (i : Inside) (es mid : List (Option EndpointState)) (ws after : List (Option WriterState)) → mid ≡ es → after ≡ ws → P (made_both i es ws) → P (made_both i mid after)
-both-same P i es mid ws after e w holds = subst (λ l. P (made_both i l after)) (sym e) (subst (λ l. P (made_both i es l)) (sym w) holds)
+  pub inner-none : (state : State) → named s.writers w ≡ None → Represents s state → Gives s condition_line (writer_inner_answer state e w)
+  unfolding writer_inner_answer
+  inner-none state none is = rw (kept-none state_of_writer state.writers s.writers (writers_kept s state is) w none) (barred-gives s state is)

@@ -11,24 +11,23 @@ use Rattle.usb_io.proofs.Following.{consumed_is_prefix}
 use Rattle.usb_session_streams.specs.Told.{WriterCalls}
 use Rattle.usb_io.specs.Messages.{messages, AreFirstOf}
 use Rattle.usb_io.proofs.EchoedMessages.{messages_are_first}
-use Rattle.usb_session_calls.specs.ReaderAt.{ReaderAt, state_of_reader}
-use Rattle.usb_session_calls.specs.WriterAt.{WriterAt}
+use Rattle.usb_session_calls.specs.State.{Reader, Writer, state_of_reader}
 use Rattle.usb_session.specs.Output.{start, final_host, behind}
 use Rattle.usb_session.proofs.HandleLemmas.{scripts-go_on}
-use Rattle.usb_session.proofs.WrittenWriters.{TellsAt, at-later, tells-behind}
+use Rattle.usb_session.proofs.WrittenWriters.{TellsAt, at-later, tell-at}
 use Rattle.usb_session.proofs.FramedReaders.{FollowsAt, history_of}
 use Rattle.usb_session.proofs.FramedBehind.{follow-at}
 use Rattle.usb_session.proofs.LinesBehind.{behind-extends}
 use Rattle.usb_session_run.specs.Exchanges.{exchange_of, OnlyExchange, MessagesAlwaysArrive, MessagesKeepArriving}
 
-arrive : (past : List Event) (x : WriterAt) (y : ReaderAt) (c : WriterCalls) (consumed : List Mark) → TellsAt past x c → FollowsAt past y consumed → OnlyExchange past x y c → AreFirstOf (messages consumed) (messages (marks_of c.accepted))
+arrive : (past : List Event) (x : Writer) (y : Reader) (c : WriterCalls) (consumed : List Mark) → TellsAt past x c → FollowsAt past y consumed → OnlyExchange past x y c → AreFirstOf (messages consumed) (messages (marks_of c.accepted))
 arrive past x y c consumed tells follows only =
     let m = x.endpoint.maximum in
     let more = tells.whole.0 in
     let size = tells.whole.1 in
     let outs = take-append-drop x.endpoint.taken x.endpoint.tickets in
     let ins = take-append-drop y.endpoint.taken y.endpoint.tickets in
-    let carry = subst (λ (ts : List ℕ). AllCarry past x.endpoint.device x.endpoint.address m ts (written m x.writer.bare.size c.accepted).transfers) outs tells.tells.carries.0 in
+    let carry = subst (λ (ts : List ℕ). AllCarry past x.endpoint.device x.endpoint.address m ts (written m x.bare.size c.accepted).transfers) outs tells.tells.carries.0 in
     let up = subst IsAscending outs tells.tells.carries.1 in
     let mine = subst (λ (ts : List ℕ). Each (IsMine past y.endpoint.device y.endpoint.address y.endpoint.maximum) ts) ins follows.follows.mine in
     let prefix =
@@ -44,7 +43,7 @@ arrive past x y c consumed tells follows only =
 
 pub messages-arrive : (items : List Item) → IsLawful (final_host items).kernel.past → MessagesAlwaysArrive items
 messages-arrive items lawful before after all w r x y c consumed writer calls reader framed only =
-    arrive (behind (start items) before).host.kernel.past x y c consumed (tells-behind scripts-go_on items before w x c writer calls)
+    arrive (behind (start items) before).host.kernel.past x y c consumed (tell-at scripts-go_on items before w x writer c calls)
     (follow-at scripts-go_on items lawful before after all r y reader consumed framed) only
 
 -- so it is of the writer as it was before
@@ -53,5 +52,5 @@ messages-keep-arriving items lawful before middle after all w r x y c consumed w
     let old = (behind (start items) before).host.kernel.past in
     let new = (behind (start items) (before ++ middle)).host.kernel.past in
     arrive new x y c consumed
-    (at-later old new x c (behind-extends scripts-go_on items before middle) (tells-behind scripts-go_on items before w x c writer calls))
+    (at-later old new x c (behind-extends scripts-go_on items before middle) (tell-at scripts-go_on items before w x writer c calls))
     (follow-at scripts-go_on items lawful (before ++ middle) after all r y reader consumed framed) only

@@ -14,20 +14,19 @@ use Rattle.usb_io.specs.Streams.{Mark, Byte, End}
 use Rattle.usb_io.specs.Writes.{Accept, Finish, marks_of}
 use Rattle.usb_session_streams.specs.Told.{WriterCalls}
 use Rattle.usb_io.specs.Messages.{messages}
-use Rattle.usb_session_calls.specs.State.{State}
-use Rattle.usb_session_calls.specs.ReaderAt.{ReaderAt, reader_at}
-use Rattle.usb_session_calls.specs.WriterAt.{WriterAt, writer_at}
+use Rattle.usb_session_calls.specs.Names.{named}
+use Rattle.usb_session_calls.specs.State.{State, Reader, Writer}
 use Rattle.usb_session.specs.Output.{start, behind}
 use Rattle.usb_session.proofs.WorkedOutput.{output_on_literals}
 use Rattle.usb_session_run.specs.Exchanges.{OnlyExchange}
 
 -- the writer of number 0 in one state, with its calls, and the reader of number 0 in the same or a later one, with what it
 -- consumed; the journal of the later state, on which the two do nothing but exchange messages; and the messages that were ended
-pub record HaveExchanged (first state : State) (x : WriterAt) (y : ReaderAt) (c : WriterCalls) (consumed : List Mark) (past : List Event) (read sent : List (List ℕ)) : Type 0 where
-  pub writer : writer_at first 0 ≡ Some x
-  pub calls : x.writer.calls ≡ Some c
-  pub reader : reader_at state 0 ≡ Some y
-  pub framed : y.reader.consumed ≡ Some consumed
+pub record HaveExchanged (first state : State) (x : Writer) (y : Reader) (c : WriterCalls) (consumed : List Mark) (past : List Event) (read sent : List (List ℕ)) : Type 0 where
+  pub writer : named first.writers 0 ≡ Some x
+  pub calls : x.calls ≡ Some c
+  pub reader : named state.readers 0 ≡ Some y
+  pub framed : y.consumed ≡ Some consumed
   pub journal : state.host.kernel.past ≡ past
   pub only : OnlyExchange past x y c
   pub are_read : messages consumed ≡ read
@@ -53,18 +52,22 @@ abbrev pub behind_all : List Item → State
 behind_all lines = behind (start lines) lines
 
 -- what is open then: the writer with so many tickets taken, and the reader, which has read all that it took
-abbrev pub writer_with : List ℕ → ℕ → WriterCalls → WriterAt
+abbrev pub writer_with : List ℕ → ℕ → WriterCalls → Writer
 writer_with tickets taken c =
     record {
-      writer = record { bare = record { n = 1; size = 8; timeout = 2 ^ 64 - 1; buffer = None; begun = false }; calls = Some c };
       endpoint = record { device = 0; address = 2; kind = Interrupt; maximum = 4; key = 1; tickets = tickets; taken = taken; was_streamed = true };
+      bare = record { n = 1; size = 8; timeout = 2 ^ 64 - 1; buffer = None; begun = false };
+      calls = Some c;
     }
 
-abbrev pub reader_with : List ℕ → List Mark → ReaderAt
+abbrev pub reader_with : List ℕ → List Mark → Reader
 reader_with given consumed =
     record {
-      reader = record { bare = record { n = 1; size = 12; timeout = 2 ^ 64 - 1; unread = []; ended = false; error = None }; before = []; given = given; consumed = Some consumed };
       endpoint = record { device = 0; address = 129; kind = Interrupt; maximum = 4; key = 0; tickets = 1 ∷ []; taken = 1; was_streamed = true };
+      bare = record { n = 1; size = 12; timeout = 2 ^ 64 - 1; unread = []; ended = false; error = None };
+      before = [];
+      given = given;
+      consumed = Some consumed;
     }
 
 -- five bytes are written, echoed in two packets, and read
@@ -154,7 +157,7 @@ behind_first before middle = behind (start (before ++ middle)) before
 
 -- no writer of number 0 is open then, and yet its message is read
 pub record AreReadWithout (gone : Item) : Type 0 where
-  pub none : writer_at (behind_all (five_sent ++ five_read gone)) 0 ≡ None
+  pub none : named (behind_all (five_sent ++ five_read gone)).writers 0 ≡ None
   pub exchanged : HaveExchanged (behind_first five_sent (five_read gone)) (behind_all (five_sent ++ five_read gone)) (writer_with (0 ∷ []) 0 five_calls)
       (reader_with (1 ∷ 2 ∷ 3 ∷ 4 ∷ 5 ∷ []) five_consumed) five_calls five_consumed five_past ((1 ∷ 2 ∷ 3 ∷ 4 ∷ 5 ∷ []) ∷ []) ((1 ∷ 2 ∷ 3 ∷ 4 ∷ 5 ∷ []) ∷ [])
 

@@ -1,21 +1,22 @@
 use Rattle.std.proofs.Common.{true, false, sym, ◌∙◌}
 use Rattle.usb_session_calls.specs.Names.{named}
-use Rattle.usb_session_calls.specs.State.{State}
-use Rattle.usb_session_calls.specs.ReaderAt.{endpoint_place}
+use Rattle.usb_session_calls.specs.State.{State, endpoint_state}
 use Rattle.usb_session_calls.specs.Closes.{close_answer, closed, closed_at}
-use Rattle.usb_session.proofs.CloseAnswers.{close-answers, some_kept}
+use Rattle.usb_session_calls.proofs.Called.{endpoints_kept}
+use Rattle.usb_session.proofs.KeptNames.{kept-some}
+use Rattle.usb_session.proofs.CloseAnswers.{close-answers}
 use Rattle.usb_session.proofs.session.Session.close.Goals as goal
 
 pub returns-then-close_endpoint-clause-answered : goal.returns-then-close_endpoint-clause-answered
 unfolding close_answer closed
 returns-then-close_endpoint-clause-answered c =
-    close-answers (λ (state : State) n. named state.endpoints (endpoint_place n)) (λ (state : State) n. closed_at state (endpoint_place n)) c.args.self.now c.close_endpoint.new.self c.number.result c.args.name c.args.line.now c.write_ok.new.out c.write_ok.result true c.number.ensures.value
-    (λ state r. some_kept c.args.self.now state (endpoint_place c.number.result) true r (sym c.close_endpoint.ensures.was_open ∙ c.if-close_endpoint.true))
+    close-answers (λ (state : State) n. named state.endpoints n) closed_at c.args.self.now c.close_endpoint.new.self c.number.result c.args.name c.args.line.now c.write_ok.new.out c.write_ok.result true c.number.ensures.value
+    (λ state r. kept-some endpoint_state state.endpoints c.args.self.now.endpoints (endpoints_kept c.args.self.now state r) c.number.result true (sym c.close_endpoint.ensures.was_open ∙ c.if-close_endpoint.true))
     c.close_endpoint.ensures.stands c.write_ok.ensures.text
 
 pub returns-else-close_endpoint-clause-answered : goal.returns-else-close_endpoint-clause-answered
 unfolding close_answer closed
 returns-else-close_endpoint-clause-answered c =
-    close-answers (λ (state : State) n. named state.endpoints (endpoint_place n)) (λ (state : State) n. closed_at state (endpoint_place n)) c.args.self.now c.close_endpoint.new.self c.number.result c.args.name c.args.line.now c.write_condition.new.out c.write_condition.result false c.number.ensures.value
-    (λ state r. some_kept c.args.self.now state (endpoint_place c.number.result) false r (sym c.close_endpoint.ensures.was_open ∙ c.if-close_endpoint.false))
+    close-answers (λ (state : State) n. named state.endpoints n) closed_at c.args.self.now c.close_endpoint.new.self c.number.result c.args.name c.args.line.now c.write_condition.new.out c.write_condition.result false c.number.ensures.value
+    (λ state r. kept-some endpoint_state state.endpoints c.args.self.now.endpoints (endpoints_kept c.args.self.now state r) c.number.result false (sym c.close_endpoint.ensures.was_open ∙ c.if-close_endpoint.false))
     c.close_endpoint.ensures.stands c.write_condition.ensures.text

@@ -1,4 +1,4 @@
-use Rattle.std.proofs.Common.{◌≡◌, ◌<◌, ◌≤◌, ℕ, None}
+use Rattle.std.proofs.Common.{◌≡◌, ◌<◌, ℕ, None}
 use Rattle.usb_session_calls.specs.State.{State}
 use Rattle.usb_session_calls.specs.Names.{named}
 use Rattle.usb_session.specs.Ends.{endpoints_closed}
@@ -8,6 +8,7 @@ use Rattle.usb_session.proofs.session.Session.close_endpoints.Given as goal
 abbrev pub invariant-loop-name : goal.invariant-loop-name
 invariant-loop-name l = record {
   stands : (state : State) → Represents l.initial.self state → Represents l.self (endpoints_closed state l.name);
-  none : (e : ℕ) → e < l.name → named l.self.endpoints e ≡ None;
-  streams : (e : ℕ) → 64 ≤ e → named l.self.endpoints e ≡ named l.initial.self.endpoints e;
+  none : (n : ℕ) → n < l.name → named l.self.endpoints n ≡ None;
+  readers : l.self.readers ≡ l.initial.self.readers;
+  writers : l.self.writers ≡ l.initial.self.writers;
 }

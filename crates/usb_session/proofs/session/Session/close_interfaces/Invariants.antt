@@ -3,12 +3,13 @@ use Rattle.usb_session_calls.specs.State.{State}
 use Rattle.usb_session_calls.specs.Names.{named}
 use Rattle.usb_session.specs.Ends.{interfaces_closed}
 use Rattle.usb_session_calls.specs.Relation.{Represents}
+use Rattle.usb_session_calls.specs.SessionState.{open_under}
 use Rattle.usb_session.proofs.session.Session.close_interfaces.Given as goal
 
 abbrev pub invariant-loop-name : goal.invariant-loop-name
 invariant-loop-name l = record {
   stands : (state : State) → Represents l.initial.self state → Represents l.self (interfaces_closed state l.name);
   none : (i : ℕ) → i < l.name → named l.self.interfaces i ≡ None;
-  endpoints : l.self.endpoints ≡ l.initial.self.endpoints;
+  endpoints : open_under l.self ≡ open_under l.initial.self;
   futures : l.self.futures ≡ l.initial.self.futures;
 }

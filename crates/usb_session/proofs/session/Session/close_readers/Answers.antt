@@ -1,10 +1,9 @@
 use Rattle.std.proofs.Common.{◌≡◌, ◌∙◌, arith, ap, sym, subst}
 use Rattle.usb_session_calls.specs.Names.{freed}
-use Rattle.usb_session_calls.specs.ReaderAt.{reader_place}
 use Rattle.usb_session_calls.specs.Readers.{reader_closed}
 use Rattle.usb_session.specs.Ends.{readers_closed}
 use Rattle.usb_session_calls.specs.Relation.{Represents}
-use Rattle.usb_session.proofs.EndLemmas.{is_name, no_name, none-more_behind, below-more}
+use Rattle.usb_session.proofs.EndLemmas.{is_name, no_name, none-more, below-more}
 use Rattle.usb_session.proofs.session.Session.close_readers.Goals as goal
 
 pub loop-number-preserved : goal.loop-number-preserved
@@ -17,7 +16,7 @@ loop-number-preserved c =
       stands =
           λ state r. subst (Represents after) (ap (reader_closed (readers_closed state number)) same ∙ sym (below-more reader_closed state number))
           (c.close_reader_at.ensures.stands (readers_closed state number) (c.loop-number.invariant.stands state r));
-      none = none-more_behind 64 before.endpoints after.endpoints number (c.close_reader_at.ensures.freed ∙ ap (λ n. freed before.endpoints (reader_place n)) same) c.loop-number.invariant.none;
+      none = none-more before.readers after.readers number (c.close_reader_at.ensures.freed ∙ ap (freed before.readers) same) c.loop-number.invariant.none;
     }
 
 pub unreachable-requires : goal.unreachable-requires

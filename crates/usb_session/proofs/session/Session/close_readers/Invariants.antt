@@ -1,7 +1,6 @@
 use Rattle.std.proofs.Common.{◌≡◌, ◌<◌, ℕ, None}
 use Rattle.usb_session_calls.specs.State.{State}
 use Rattle.usb_session_calls.specs.Names.{named}
-use Rattle.usb_session_calls.specs.ReaderAt.{reader_place}
 use Rattle.usb_session.specs.Ends.{readers_closed}
 use Rattle.usb_session_calls.specs.Relation.{Represents}
 use Rattle.usb_session.proofs.session.Session.close_readers.Given as goal
@@ -9,5 +8,5 @@ use Rattle.usb_session.proofs.session.Session.close_readers.Given as goal
 abbrev pub invariant-loop-number : goal.invariant-loop-number
 invariant-loop-number l = record {
   stands : (state : State) → Represents l.initial.self state → Represents l.self (readers_closed state l.number);
-  none : (r : ℕ) → r < l.number → named l.self.endpoints (reader_place r) ≡ None;
+  none : (n : ℕ) → n < l.number → named l.self.readers n ≡ None;
 }

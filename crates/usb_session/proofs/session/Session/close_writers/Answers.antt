@@ -1,11 +1,9 @@
 use Rattle.std.proofs.Common.{◌≡◌, ◌∙◌, arith, ap, sym, subst}
 use Rattle.usb_session_calls.specs.Names.{freed}
-use Rattle.usb_session_calls.specs.ReaderAt.{reader_place}
-use Rattle.usb_session_calls.specs.WriterAt.{writer_place}
 use Rattle.usb_session_calls.specs.Writers.{writer_closed}
 use Rattle.usb_session.specs.Ends.{writers_closed}
 use Rattle.usb_session_calls.specs.Relation.{Represents}
-use Rattle.usb_session.proofs.EndLemmas.{is_name, no_name, none-more_behind, same-apart, below-more}
+use Rattle.usb_session.proofs.EndLemmas.{is_name, no_name, none-more, below-more}
 use Rattle.usb_session.proofs.session.Session.close_writers.Goals as goal
 
 pub loop-number-preserved : goal.loop-number-preserved
@@ -14,15 +12,12 @@ loop-number-preserved c =
     let same : c.in-Some.name ≡ number = is_name number c.in-Some.name (sym c.new.ensures.value ∙ c.in-Some.is) in
     let after = c.close_writer_at.new.self in
     let before = c.loop-number.self in
-    let rest : after.endpoints ≡ freed before.endpoints (writer_place number) = c.close_writer_at.ensures.freed ∙ ap (λ n. freed before.endpoints (writer_place n)) same in
     record {
       stands =
           λ state r. subst (Represents after) (ap (writer_closed (writers_closed state number)) same ∙ sym (below-more writer_closed state number))
           (c.close_writer_at.ensures.stands (writers_closed state number) (c.loop-number.invariant.stands state r));
-      none = none-more_behind 128 before.endpoints after.endpoints number rest c.loop-number.invariant.none;
-      readers = λ r below.
-          same-apart before.endpoints after.endpoints (writer_place number) (reader_place r) (λ here. absurd (omega (arith, below, here))) rest
-          ∙ c.loop-number.invariant.readers r below;
+      none = none-more before.writers after.writers number (c.close_writer_at.ensures.freed ∙ ap (freed before.writers) same) c.loop-number.invariant.none;
+      readers = c.close_writer_at.ensures.readers ∙ c.loop-number.invariant.readers;
     }
 
 pub unreachable-requires : goal.unreachable-requires

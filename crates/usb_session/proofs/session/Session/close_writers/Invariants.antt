@@ -1,8 +1,6 @@
 use Rattle.std.proofs.Common.{◌≡◌, ◌<◌, ℕ, None}
 use Rattle.usb_session_calls.specs.State.{State}
 use Rattle.usb_session_calls.specs.Names.{named}
-use Rattle.usb_session_calls.specs.ReaderAt.{reader_place}
-use Rattle.usb_session_calls.specs.WriterAt.{writer_place}
 use Rattle.usb_session.specs.Ends.{writers_closed}
 use Rattle.usb_session_calls.specs.Relation.{Represents}
 use Rattle.usb_session.proofs.session.Session.close_writers.Given as goal
@@ -10,6 +8,6 @@ use Rattle.usb_session.proofs.session.Session.close_writers.Given as goal
 abbrev pub invariant-loop-number : goal.invariant-loop-number
 invariant-loop-number l = record {
   stands : (state : State) → Represents l.initial.self state → Represents l.self (writers_closed state l.number);
-  none : (w : ℕ) → w < l.number → named l.self.endpoints (writer_place w) ≡ None;
-  readers : (r : ℕ) → r < 64 → named l.self.endpoints (reader_place r) ≡ named l.initial.self.endpoints (reader_place r);
+  none : (n : ℕ) → n < l.number → named l.self.writers n ≡ None;
+  readers : l.self.readers ≡ l.initial.self.readers;
 }

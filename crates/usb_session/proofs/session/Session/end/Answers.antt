@@ -7,21 +7,23 @@ use Rattle.usb_session_calls.specs.State.{State, endpoint_state}
 use Rattle.usb_session.specs.Ends.{readers_closed, writers_closed, endpoints_closed, futures_closed, interfaces_closed, devices_closed, all_closed}
 use Rattle.usb_session_calls.specs.Relation.{Represents}
 use Rattle.usb_session.specs.Accounts.{Accounted}
-use Rattle.usb_session_calls.specs.SessionState.{SessionState}
+use Rattle.usb_session_calls.specs.EndpointNames.{EndpointName, Own, OfReader, OfWriter, endpoint_under}
+use Rattle.usb_session_calls.specs.SessionState.{SessionState, open_under}
 use Rattle.usb_session.specs.SessionFacts.{made_of}
-use Rattle.usb_session.proofs.TakenOut.{places-made}
-use Rattle.usb_session.proofs.EndLemmas.{none-all, none-closed, none-endpoints, none-readers, none-writers, unmapped, end-host, end-none, end-empty}
+use Rattle.usb_session.proofs.KeptNames.{unmapped}
+use Rattle.usb_session.proofs.Replaced.{reader_endpoint, writer_endpoint}
+use Rattle.usb_session.proofs.EndLemmas.{none-all, none-open, end-host, end-none, end-empty}
 use Rattle.usb_session.proofs.AccountLemmas.{accounted-all_closed, accounted-none}
-use Rattle.usb_session_calls.proofs.Answering.{named_kept, host_is}
+use Rattle.usb_session_calls.proofs.Answering.{under_kept, host_is}
 use Rattle.usb_session.proofs.session.Session.end.Goals as goal
 
 -- all is closed, so no endpoint and no future holds a ticket, and each ticket of the host has its end
-end-ended : (s : SessionState) (before now : HostState) (state : State) → before ≡ s.host → ((e : ℕ) → named s.endpoints e ≡ None) → ((n : ℕ) → named s.futures n ≡ None) → Represents s (devices_closed (interfaces_closed (futures_closed (endpoints_closed (writers_closed (readers_closed state 64) 64) 64) 64) 64) 64) → Accounted state
+end-ended : (s : SessionState) (before now : HostState) (state : State) → before ≡ s.host → ((e : EndpointName) → open_under s e ≡ None) → ((n : ℕ) → named s.futures n ≡ None) → Represents s (devices_closed (interfaces_closed (futures_closed (endpoints_closed (writers_closed (readers_closed state 64) 64) 64) 64) 64) 64) → Accounted state
     → (((t : ℕ) → owner_at before.tickets t ≡ None) → HasEnds now.tickets) → HasEnds now.tickets
 unfolding all_closed
 end-ended s before now state same none gone r a ends =
     let last = all_closed state in
-    let closed_all : (e : ℕ) → named last.endpoints e ≡ None = λ e. unmapped endpoint_state (named last.endpoints e) (sym (named_kept s last e r) ∙ none e) in
+    let closed_all : (e : EndpointName) → endpoint_under last e ≡ None = λ e. unmapped endpoint_state (endpoint_under last e) (sym (under_kept s last e r) ∙ none e) in
     let all_gone : (n : ℕ) → named last.futures n ≡ None = λ n. ap (λ (v : SessionState). named v.futures n) (sym r.is) ∙ gone n in
     ends (λ t. ap (λ (h : HostState). owner_at h.tickets t) (same ∙ host_is s last r) ∙ accounted-none last (accounted-all_closed state a) closed_all all_gone t)
 
@@ -34,26 +36,25 @@ drop_names-requires c = record {
 
 pub drop_names-requires-2 : goal.drop_names-requires-2
 drop_names-requires-2 c = record {
-  none = none-endpoints c.session.inside.endpoints.items c.session.inside.readers.items c.session.inside.writers.items (places-made c.session.inside c.session.invariant)
-      (none-closed c.close_readers.new.self.endpoints c.close_writers.new.self.endpoints c.close_endpoints.new.self.endpoints (made_of c.session.inside).endpoints c.session.invariant.endpoint_names
-      c.close_readers.ensures.none c.close_writers.ensures.readers c.close_writers.ensures.none c.close_endpoints.ensures.streams c.close_endpoints.ensures.none
-      (λ n. ap (λ (v : SessionState). named v.endpoints n) c.session.view_is ∙ ap (λ l. named l n) (c.close_devices.ensures.endpoints ∙ c.close_interfaces.ensures.endpoints ∙ c.close_futures.ensures.endpoints)));
+  none = λ n. none-open c.close_readers.new.self c.close_writers.new.self c.close_endpoints.new.self (made_of c.session.inside) c.session.invariant c.close_readers.ensures.none c.close_writers.ensures.readers c.close_writers.ensures.none
+      c.close_endpoints.ensures.readers c.close_endpoints.ensures.writers c.close_endpoints.ensures.none
+      (ap open_under c.session.view_is ∙ c.close_devices.ensures.endpoints ∙ c.close_interfaces.ensures.endpoints ∙ c.close_futures.ensures.endpoints) (Own n);
 }
 
 pub drop_names-requires-3 : goal.drop_names-requires-3
 drop_names-requires-3 c = record {
-  none = none-readers c.session.inside.endpoints.items c.session.inside.readers.items c.session.inside.writers.items (places-made c.session.inside c.session.invariant)
-      (none-closed c.close_readers.new.self.endpoints c.close_writers.new.self.endpoints c.close_endpoints.new.self.endpoints (made_of c.session.inside).endpoints c.session.invariant.endpoint_names
-      c.close_readers.ensures.none c.close_writers.ensures.readers c.close_writers.ensures.none c.close_endpoints.ensures.streams c.close_endpoints.ensures.none
-      (λ n. ap (λ (v : SessionState). named v.endpoints n) c.session.view_is ∙ ap (λ l. named l n) (c.close_devices.ensures.endpoints ∙ c.close_interfaces.ensures.endpoints ∙ c.close_futures.ensures.endpoints)));
+  none = λ n. unmapped reader_endpoint (named c.session.inside.readers.items n)
+      (none-open c.close_readers.new.self c.close_writers.new.self c.close_endpoints.new.self (made_of c.session.inside) c.session.invariant c.close_readers.ensures.none c.close_writers.ensures.readers c.close_writers.ensures.none
+      c.close_endpoints.ensures.readers c.close_endpoints.ensures.writers c.close_endpoints.ensures.none
+      (ap open_under c.session.view_is ∙ c.close_devices.ensures.endpoints ∙ c.close_interfaces.ensures.endpoints ∙ c.close_futures.ensures.endpoints) (OfReader n));
 }
 
 pub drop_names-requires-4 : goal.drop_names-requires-4
 drop_names-requires-4 c = record {
-  none = none-writers c.session.inside.endpoints.items c.session.inside.readers.items c.session.inside.writers.items (places-made c.session.inside c.session.invariant)
-      (none-closed c.close_readers.new.self.endpoints c.close_writers.new.self.endpoints c.close_endpoints.new.self.endpoints (made_of c.session.inside).endpoints c.session.invariant.endpoint_names
-      c.close_readers.ensures.none c.close_writers.ensures.readers c.close_writers.ensures.none c.close_endpoints.ensures.streams c.close_endpoints.ensures.none
-      (λ n. ap (λ (v : SessionState). named v.endpoints n) c.session.view_is ∙ ap (λ l. named l n) (c.close_devices.ensures.endpoints ∙ c.close_interfaces.ensures.endpoints ∙ c.close_futures.ensures.endpoints)));
+  none = λ n. unmapped writer_endpoint (named c.session.inside.writers.items n)
+      (none-open c.close_readers.new.self c.close_writers.new.self c.close_endpoints.new.self (made_of c.session.inside) c.session.invariant c.close_readers.ensures.none c.close_writers.ensures.readers c.close_writers.ensures.none
+      c.close_endpoints.ensures.readers c.close_endpoints.ensures.writers c.close_endpoints.ensures.none
+      (ap open_under c.session.view_is ∙ c.close_devices.ensures.endpoints ∙ c.close_interfaces.ensures.endpoints ∙ c.close_futures.ensures.endpoints) (OfWriter n));
 }
 
 pub drop_names-requires-5 : goal.drop_names-requires-5
@@ -81,10 +82,10 @@ returns c =
     let no_interfaces : (i : ℕ) → named s.interfaces i ≡ None =
     none-all s.interfaces c.session.invariant.interface_names
     (λ n below. ap (λ (v : SessionState). named v.interfaces n) c.session.view_is ∙ ap (λ l. named l n) c.close_devices.ensures.interfaces ∙ c.close_interfaces.ensures.none n below) in
-    let no_endpoints : (e : ℕ) → named s.endpoints e ≡ None =
-    none-closed c.close_readers.new.self.endpoints c.close_writers.new.self.endpoints c.close_endpoints.new.self.endpoints s.endpoints c.session.invariant.endpoint_names
-    c.close_readers.ensures.none c.close_writers.ensures.readers c.close_writers.ensures.none c.close_endpoints.ensures.streams c.close_endpoints.ensures.none
-    (λ n. ap (λ (v : SessionState). named v.endpoints n) c.session.view_is ∙ ap (λ l. named l n) (c.close_devices.ensures.endpoints ∙ c.close_interfaces.ensures.endpoints ∙ c.close_futures.ensures.endpoints)) in
+    let no_endpoints : (e : EndpointName) → open_under s e ≡ None =
+    none-open c.close_readers.new.self c.close_writers.new.self c.close_endpoints.new.self (made_of c.session.inside) c.session.invariant c.close_readers.ensures.none c.close_writers.ensures.readers c.close_writers.ensures.none
+    c.close_endpoints.ensures.readers c.close_endpoints.ensures.writers c.close_endpoints.ensures.none
+    (ap open_under c.session.view_is ∙ c.close_devices.ensures.endpoints ∙ c.close_interfaces.ensures.endpoints ∙ c.close_futures.ensures.endpoints) in
     let no_futures : (n : ℕ) → named s.futures n ≡ None =
     none-all s.futures c.session.invariant.future_names
     (λ n below. ap (λ (v : SessionState). named v.futures n) c.session.view_is ∙ ap (λ l. named l n) (c.close_devices.ensures.futures ∙ c.close_interfaces.ensures.futures) ∙ c.close_futures.ensures.none n below) in
@@ -98,7 +99,7 @@ returns c =
     (c.close_futures.ensures.stands closed (c.close_endpoints.ensures.stands written (c.close_writers.ensures.stands read (c.close_readers.ensures.stands state r))))) in
     let ends : (state : State) → Represents c.args.self state → Accounted state → HasEnds now.tickets =
     λ state r a. end-ended c.close_devices.new.self before now state (ap (λ (v : SessionState). v.host) c.session.view_is)
-    (λ n. sym (ap (λ (v : SessionState). named v.endpoints n) c.session.view_is) ∙ no_endpoints n)
+    (λ e. sym (ap (λ (v : SessionState). open_under v e) c.session.view_is) ∙ no_endpoints e)
     (λ n. sym (ap (λ (v : SessionState). named v.futures n) c.session.view_is) ∙ no_futures n)
     (stands state r) a c.finish.ensures.ended in
     let nothing : (state : State) → Represents c.args.self state → Accounted state → KeepsNothing now =

@@ -1,10 +1,15 @@
-use Rattle.std.proofs.Common.{◌≡◌, refl, sym, ◌∙◌}
+use Rattle.std.proofs.Common.{◌≡◌, refl, sym, ◌∙◌, ap, subst, Some}
+use Rattle.std.specs.Option.{option_map}
+use Rattle.usb_session_calls.specs.EndpointNames.{OfWriter}
+use Rattle.usb_session_calls.specs.State.{State, Writer, state_of_writer}
+use Rattle.usb_session_calls.specs.SessionState.{SessionState, IsSound}
 use Rattle.usb_session.specs.SessionFacts.{made_of}
 use Rattle.usb_session_calls.specs.CalledWriters.{writer_called, on_writer}
-use Rattle.usb_session.proofs.TakenOut.{PutBack, put_back, free_again, same-none}
-use Rattle.usb_session.proofs.Lent.{lent_is, answers-along, spare-lent}
+use Rattle.usb_session_calls.proofs.Called.{writers_kept}
 use Rattle.usb_session_calls.proofs.LentHosts.{stands-lent, line-same}
-use Rattle.usb_session.proofs.WriterCalled.{stands-writer, sound-writer_lent, sound-writer_stepped, answers-writer_called, answers-no_writer}
+use Rattle.usb_session.proofs.TakenOut.{PutBack, put_back, free_again, same-none, back-changes, answers-none, answers-writer}
+use Rattle.usb_session.proofs.Replaced.{writer_endpoint, writer-replaces}
+use Rattle.usb_session.proofs.Lent.{lent_is, sound-lent, sound-stepped, answers-along, spare-lent}
 use Rattle.usb_session.proofs.session.Session.on_writer.Goals as goal
 use Rattle.usb_session.proofs.session.Session.on_writer.Goals.{After-rest-2, Joined-call}
 
@@ -15,36 +20,48 @@ same : (c : Joined-call) → c.take_at.new.names.items ≡ c.self.inside.writers
 same c = same-none _ _ _ _ c.take_at.ensures.taken c.in_default.is c.take_at.ensures.rest
 
 pub invariant_of-self : goal.invariant_of-self
-invariant_of-self c = sound-writer_stepped c.self.inside _ _ _ _ c.self.invariant c.lend_steps.ensures.steps c.rest.ensures.rest (same c)
+invariant_of-self c =
+    subst (λ l. IsSound (record (made_of c.self.inside) { host = c.rest.new.self; writers = l })) (sym (same c))
+    (sound-stepped (made_of c.self.inside) _ _ _ c.self.invariant c.lend_steps.ensures.steps c.rest.ensures.rest)
 
 pub returns-in_default-clause-answered : goal.returns-in_default-clause-answered
 unfolding on_writer
 returns-in_default-clause-answered c =
-    answers-along _ (made_of c.self.inside) _ c.args.steps _ _ _ c.args.line.now c.write_condition.new.out c.write_condition.result (λ s. on_writer s c.args.name c.args.call) c.self.view_is
+    let s : SessionState = record (made_of c.self.inside) { host = c.lend_steps.new.self } in
+    answers-along _ (made_of c.self.inside) _ c.args.steps _ _ _ c.args.line.now c.write_condition.new.out c.write_condition.result (λ z. on_writer z c.args.name c.args.call) c.self.view_is
     (lent_is c.self.inside.host _ _ _ c.lend_steps.ensures.steps c.into_vec.ensures.value) refl c.rest.ensures.rest
-    (answers-no_writer c.self.inside c.lend_steps.new.self _ _ _ c.args.line.now c.write_condition.new.out _ (λ state x. writer_called c.args.call state c.args.name x)
-    (sym c.take_at.ensures.taken ∙ c.in_default.is) (same c) c.number-number.ensures.value c.write_condition.ensures.text)
+    (answers-none (λ (state : State). state.writers) (λ (z : SessionState). z.writers) state_of_writer writers_kept s (record s { writers = c.take_at.new.names.items }) _ c.args.name c.number-number.ensures.value
+    c.args.line.now c.write_condition.new.out c.write_condition.result (λ state x. writer_called c.args.call state c.args.name x)
+    (sym c.take_at.ensures.taken ∙ c.in_default.is) (ap (λ l. record s { writers = l }) (same c)) c.write_condition.ensures.text)
 
 pub returns-in_default-clause-spare : goal.returns-in_default-clause-spare
 returns-in_default-clause-spare c =
-    spare-lent c.self.inside _ _ _ _ _ c.self.view_is (lent_is c.self.inside.host _ _ _ c.lend_steps.ensures.steps c.into_vec.ensures.value) (line-same c.lend_steps.new.self) c.rest.ensures.rest c.requires.room
+    spare-lent (made_of c.self.inside) _ _ _ _ _ c.self.view_is (lent_is c.self.inside.host _ _ _ c.lend_steps.ensures.steps c.into_vec.ensures.value) (line-same c.lend_steps.new.self) c.rest.ensures.rest c.requires.room
 
 pub call_writer-called-requires : goal.call_writer-called-requires
-call_writer-called-requires c = record { stands = stands-lent _ _ _ _ c.lend_steps.ensures.steps (stands-writer c.self.inside _ _ _ c.self.invariant c.take_at.ensures.taken c.in-Some.is) }
+call_writer-called-requires c = record {
+  stands = stands-lent _ _ _ _ c.lend_steps.ensures.steps (c.self.invariant.endpoints_stand (OfWriter c.number-number.result) c.in-Some.writer.endpoint (ap (option_map writer_endpoint) (sym c.take_at.ensures.taken ∙ c.in-Some.is)));
+}
 
 pub put_at-requires : goal.put_at-requires
 put_at-requires c = record { free = free_again _ _ _ _ _ c.take_at.ensures.taken c.in-Some.is c.take_at.ensures.rest }
 
 pub invariant_of-self-2 : goal.invariant_of-self-2
-invariant_of-self-2 c = sound-writer_lent c.self.inside _ _ _ _ _ _ _ _ c.self.invariant c.lend_steps.ensures.steps (back c) c.call_writer-called.ensures.keeps c.rest-2.ensures.rest
+invariant_of-self-2 c =
+    let s = made_of c.self.inside in
+    let n = c.number-number.result in
+    let x = c.in-Some.writer in
+    let y = c.call_writer-called.new.writer in
+    sound-lent s _ _ _ _ s.endpoints s.readers c.put_at.new.names.items (OfWriter n) x.endpoint y.endpoint c.self.invariant c.lend_steps.ensures.steps (ap (option_map writer_endpoint) (back c).was)
+    (writer-replaces s n c.put_at.new.names.items (Some y) (back-changes _ _ n x y (back c))) c.call_writer-called.ensures.keeps c.rest-2.ensures.rest
 
 pub returns-clause-answered : goal.returns-clause-answered
 unfolding on_writer
 returns-clause-answered c =
-    answers-along _ (made_of c.self.inside) _ c.args.steps _ _ _ c.args.line.now c.call_writer-called.new.line c.call_writer-called.result (λ s. on_writer s c.args.name c.args.call) c.self.view_is
+    answers-along _ (made_of c.self.inside) _ c.args.steps _ _ _ c.args.line.now c.call_writer-called.new.line c.call_writer-called.result (λ z. on_writer z c.args.name c.args.call) c.self.view_is
     (lent_is c.self.inside.host _ _ _ c.lend_steps.ensures.steps c.into_vec.ensures.value) refl c.rest-2.ensures.rest
-    (answers-writer_called c.self.inside _ _ _ _ _ _ _ c.args.line.now c.call_writer-called.new.line _ (writer_called c.args.call) c.self.invariant (back c) c.number-number.ensures.value c.call_writer-called.ensures.answered)
+    (answers-writer (made_of c.self.inside) _ _ _ c.args.name c.number-number.ensures.value c.args.line.now c.call_writer-called.new.line _ _ _ _ (writer_called c.args.call) (back c) c.call_writer-called.ensures.answered)
 
 pub returns-clause-spare : goal.returns-clause-spare
 returns-clause-spare c =
-    spare-lent c.self.inside _ _ _ _ _ c.self.view_is (lent_is c.self.inside.host _ _ _ c.lend_steps.ensures.steps c.into_vec.ensures.value) c.call_writer-called.ensures.keeps.line c.rest-2.ensures.rest c.requires.room
+    spare-lent (made_of c.self.inside) _ _ _ _ _ c.self.view_is (lent_is c.self.inside.host _ _ _ c.lend_steps.ensures.steps c.into_vec.ensures.value) c.call_writer-called.ensures.keeps.line c.rest-2.ensures.rest c.requires.room

@@ -1,14 +1,14 @@
-use Rattle.std.proofs.Common.{refl}
+use Rattle.usb_session.specs.SessionFacts.{made_of}
 use Rattle.usb_session.proofs.Lent.{lent_is, sound-stepped, steps-represent, spare-lent}
 use Rattle.usb_session_calls.proofs.LentHosts.{line-same}
 use Rattle.usb_session.proofs.session.Session.step_all.Goals as goal
 
 pub invariant_of-self : goal.invariant_of-self
-invariant_of-self c = sound-stepped c.self.inside _ _ _ _ c.self.invariant c.lend_steps.ensures.steps c.rest.ensures.rest refl
+invariant_of-self c = sound-stepped (made_of c.self.inside) _ _ _ c.self.invariant c.lend_steps.ensures.steps c.rest.ensures.rest
 
 pub returns-clause-stands : goal.returns-clause-stands
-returns-clause-stands c = steps-represent c.self.inside _ _ _ _ c.self.view_is (lent_is c.self.inside.host _ _ _ c.lend_steps.ensures.steps c.into_vec.ensures.value) c.rest.ensures.rest
+returns-clause-stands c = steps-represent (made_of c.self.inside) _ _ _ _ c.self.view_is (lent_is c.self.inside.host _ _ _ c.lend_steps.ensures.steps c.into_vec.ensures.value) c.rest.ensures.rest
 
 pub returns-clause-spare : goal.returns-clause-spare
 returns-clause-spare c =
-    spare-lent c.self.inside _ _ _ _ _ c.self.view_is (lent_is c.self.inside.host _ _ _ c.lend_steps.ensures.steps c.into_vec.ensures.value) (line-same c.lend_steps.new.self) c.rest.ensures.rest c.requires.room
+    spare-lent (made_of c.self.inside) _ _ _ _ _ c.self.view_is (lent_is c.self.inside.host _ _ _ c.lend_steps.ensures.steps c.into_vec.ensures.value) (line-same c.lend_steps.new.self) c.rest.ensures.rest c.requires.room
