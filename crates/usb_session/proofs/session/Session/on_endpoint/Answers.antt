@@ -1,6 +1,6 @@
 use Rattle.std.proofs.Common.{◌≡◌, refl, sym, ◌∙◌, ap, subst, Some}
 use Rattle.usb_session_calls.specs.EndpointNames.{Own}
-use Rattle.usb_session_calls.specs.State.{State, Endpoint, endpoint_state}
+use Rattle.usb_session_calls.specs.State.{State, endpoint_state}
 use Rattle.usb_session_calls.specs.SessionState.{SessionState, IsSound}
 use Rattle.usb_session.specs.SessionFacts.{made_of}
 use Rattle.usb_session_calls.specs.EndpointCalls.{endpoint_called, on_endpoint}

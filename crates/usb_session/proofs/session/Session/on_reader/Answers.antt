@@ -1,7 +1,7 @@
 use Rattle.std.proofs.Common.{◌≡◌, refl, sym, ◌∙◌, ap, subst, Some}
 use Rattle.std.specs.Option.{option_map}
 use Rattle.usb_session_calls.specs.EndpointNames.{OfReader}
-use Rattle.usb_session_calls.specs.State.{State, Reader, state_of_reader}
+use Rattle.usb_session_calls.specs.State.{State, state_of_reader}
 use Rattle.usb_session_calls.specs.SessionState.{SessionState, IsSound}
 use Rattle.usb_session.specs.SessionFacts.{made_of}
 use Rattle.usb_session_calls.specs.CalledReaders.{reader_called, on_reader}

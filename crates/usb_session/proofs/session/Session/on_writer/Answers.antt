@@ -1,7 +1,7 @@
 use Rattle.std.proofs.Common.{◌≡◌, refl, sym, ◌∙◌, ap, subst, Some}
 use Rattle.std.specs.Option.{option_map}
 use Rattle.usb_session_calls.specs.EndpointNames.{OfWriter}
-use Rattle.usb_session_calls.specs.State.{State, Writer, state_of_writer}
+use Rattle.usb_session_calls.specs.State.{State, state_of_writer}
 use Rattle.usb_session_calls.specs.SessionState.{SessionState, IsSound}
 use Rattle.usb_session.specs.SessionFacts.{made_of}
 use Rattle.usb_session_calls.specs.CalledWriters.{writer_called, on_writer}
