@@ -10,7 +10,7 @@ use Rattle.usb_session_text.specs.Calls.{condition_line, ok_line}
 use Rattle.usb_session_calls.specs.Names.{named, is_free, freed, set_name}
 use Rattle.usb_session_calls.specs.EndpointNames.{Own, OfReader}
 use Rattle.usb_session_calls.specs.State.{State, Reader, tickets_at, endpoint_of_reader}
-use Rattle.usb_session_calls.specs.Readers.{nothing_consumed, with_reader, reader_on, reader_answer, without_reader, inner_answer}
+use Rattle.usb_session_calls.specs.Readers.{nothing_consumed, with_reader, reader_answer, without_reader, inner_answer}
 use Rattle.usb_session_calls.specs.Submits.{has_direction}
 use Rattle.usb_session_calls.specs.Answer.{ok_answer}
 use Rattle.usb_session_calls.specs.SessionState.{SessionState, IsSound, open_under}

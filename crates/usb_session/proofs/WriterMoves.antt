@@ -10,7 +10,7 @@ use Rattle.usb_session_text.specs.Calls.{condition_line, ok_line}
 use Rattle.usb_session_calls.specs.Names.{named, is_free, freed, set_name}
 use Rattle.usb_session_calls.specs.EndpointNames.{Own, OfWriter}
 use Rattle.usb_session_calls.specs.State.{State, Writer, tickets_at, endpoint_of_writer}
-use Rattle.usb_session_calls.specs.Writers.{nothing_called, with_writer, writer_on, writer_answer, without_writer, writer_inner_answer}
+use Rattle.usb_session_calls.specs.Writers.{nothing_called, with_writer, writer_answer, without_writer, writer_inner_answer}
 use Rattle.usb_session_calls.specs.Submits.{has_direction}
 use Rattle.usb_session_calls.specs.Answer.{ok_answer}
 use Rattle.usb_session_calls.specs.SessionState.{SessionState, IsSound, open_under}
