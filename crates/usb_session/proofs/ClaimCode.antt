@@ -21,51 +21,31 @@ use Rattle.usb_session_calls.proofs.Called.{represents-host}
 use Rattle.usb_session_calls.proofs.Answering.{Gives, barred-gives}
 
 -- the state in which it is claimed
-claim-by : (state : State) (host now : HostState) (after : List (Option InterfaceState)) (i number : ℕ) (f : InterfaceState) (t : Result ℕ ErrorState) → Represents (session_of state) state → t ≡ Ok f.key → f.number ≡ number → now ≡ host → after ≡ set_name state.interfaces i f → Gives (record (session_of state) { host = now; interfaces = after }) ok_line (claimed_as (with_host state host) number i t)
-claim-by state host now after i number f (Err error) r tried numbered is put = absurd (cc)
-claim-by state host now after i number f (Ok key) r tried numbered is put =
+claim-by : (state : State) (host now : HostState) (after : List (Option InterfaceState)) (i number : ℕ) (f : InterfaceState) (t : Result ℕ ErrorState) → t ≡ Ok f.key → f.number ≡ number → now ≡ host → after ≡ set_name state.interfaces i f → Gives (record (session_of state) { host = now; interfaces = after }) ok_line (claimed_as (with_host state host) number i t)
+claim-by state host now after i number f (Err error) tried numbered is put = absurd (cc)
+claim-by state host now after i number f (Ok key) tried numbered is put =
     let next : f.key ≡ key = cc in
     let handle : ℕ → ℕ → InterfaceState = λ k n. record { key = k; number = n } in
     let same : f ≡ handle key number = ap (λ (k : ℕ). handle k f.number) next ∙ ap (handle key) numbered in
-    record {
-      state =
-          ap (λ (g : HostState). record (session_of state) { host = g; interfaces = after }) is
-          ∙ ap (λ (l : List (Option InterfaceState)). record (session_of state) { host = host; interfaces = l }) (put ∙ ap (set_name state.interfaces i) same);
-      same = refl;
-    }
+    record { state = rw (is, put, same) refl; same = refl }
 
-abbrev ClaimGives : State → ℕ → ℕ → ℕ → ℕ → Bool → OpenDevice → InterfaceState → HostState → List (Option InterfaceState) → SessionState → Type 0
-ClaimGives state d i key number reattach o f now after v = named v.devices d ≡ Some key → value_at v.host.devices key ≡ Some o → is_free v.interfaces i ≡ true → claimed_key (length v.host.interfaces) (claim_tried v.host o number reattach) ≡ Ok f.key → f.number ≡ number → now ≡ host_claimed v.host key number reattach → after ≡ set_name v.interfaces i f → Gives (record v { host = now; interfaces = after }) ok_line (claim_answer state d number i reattach)
-
-claim-of : (state : State) (now : HostState) (after : List (Option InterfaceState)) (d i key number : ℕ) (reattach : Bool) (o : OpenDevice) (f : InterfaceState) → Represents (session_of state) state → ClaimGives state d i key number reattach o f now after (session_of state)
+pub claim-gives : (s : SessionState) (state : State) (now : HostState) (after : List (Option InterfaceState)) (d i key number : ℕ) (reattach : Bool) (o : OpenDevice) (f : InterfaceState) → Represents s state → named s.devices d ≡ Some key → value_at s.host.devices key ≡ Some o → is_free s.interfaces i ≡ true → claimed_key (length s.host.interfaces) (claim_tried s.host o number reattach) ≡ Ok f.key → f.number ≡ number → now ≡ host_claimed s.host key number reattach → after ≡ set_name s.interfaces i f → Gives (record s { host = now; interfaces = after }) ok_line (claim_answer state d number i reattach)
 unfolding claim_answer
-claim-of state now after d i key number reattach o f r at there free tried numbered is put =
-    rw (at, there, free) (claim-by state (host_claimed state.host key number reattach) now after i number f (claimed_key (length state.host.interfaces) (claim_tried state.host o number reattach)) r tried numbered is put)
-
-pub claim-gives : (s : SessionState) (state : State) (now : HostState) (after : List (Option InterfaceState)) (d i key number : ℕ) (reattach : Bool) (o : OpenDevice) (f : InterfaceState) → Represents s state → ClaimGives state d i key number reattach o f now after s
-claim-gives s state now after d i key number reattach o f r =
-    subst (ClaimGives state d i key number reattach o f now after) (sym r) (claim-of state now after d i key number reattach o f refl)
+claim-gives s state now after d i key number reattach o f r at there free tried numbered is put =
+    rw (device-some s state d key o r at there, rw r at free, r)
+    (claim-by state (host_claimed state.host key number reattach) now after i number f (claimed_key (length state.host.interfaces) (claim_tried state.host o number reattach)) (rw r at tried) numbered (rw r at is) (rw r at put))
 
 -- or that in which it is refused
-refused-by : (state : State) (host now : HostState) (i number : ℕ) (error : ErrorState) (t : Result ℕ ErrorState) → Represents (session_of state) state → t ≡ Err error → now ≡ host → Gives (record (session_of state) { host = now }) (error_line error) (claimed_as (with_host state host) number i t)
-refused-by state host now i number error (Err other) r tried is =
-    record {
-      state = subst (λ (g : HostState). Represents (record (session_of state) { host = now }) (with_host state g)) is (represents-host (session_of state) state now r);
-      same = let same : other ≡ error = cc in ap error_line same;
-    }
-refused-by state host now i number error (Ok key) r tried is = absurd (cc)
+refused-by : (state : State) (host now : HostState) (i number : ℕ) (error : ErrorState) (t : Result ℕ ErrorState) → t ≡ Err error → now ≡ host → Gives (record (session_of state) { host = now }) (error_line error) (claimed_as (with_host state host) number i t)
+refused-by state host now i number error (Err other) tried is =
+    let same : other ≡ error = cc in record { state = rw is refl; same = ap error_line same }
+refused-by state host now i number error (Ok key) tried is = absurd (cc)
 
-abbrev ClaimRefused : State → ℕ → ℕ → ℕ → ℕ → Bool → OpenDevice → ErrorState → HostState → SessionState → Type 0
-ClaimRefused state d i key number reattach o error now v = named v.devices d ≡ Some key → value_at v.host.devices key ≡ Some o → is_free v.interfaces i ≡ true → claimed_key (length v.host.interfaces) (claim_tried v.host o number reattach) ≡ Err error → now ≡ host_claimed v.host key number reattach → Gives (record v { host = now }) (error_line error) (claim_answer state d number i reattach)
-
-refused-of : (state : State) (now : HostState) (d i key number : ℕ) (reattach : Bool) (o : OpenDevice) (error : ErrorState) → Represents (session_of state) state → ClaimRefused state d i key number reattach o error now (session_of state)
+pub claim-refused : (s : SessionState) (state : State) (now : HostState) (d i key number : ℕ) (reattach : Bool) (o : OpenDevice) (error : ErrorState) → Represents s state → named s.devices d ≡ Some key → value_at s.host.devices key ≡ Some o → is_free s.interfaces i ≡ true → claimed_key (length s.host.interfaces) (claim_tried s.host o number reattach) ≡ Err error → now ≡ host_claimed s.host key number reattach → Gives (record s { host = now }) (error_line error) (claim_answer state d number i reattach)
 unfolding claim_answer
-refused-of state now d i key number reattach o error r at there free tried is =
-    rw (at, there, free) (refused-by state (host_claimed state.host key number reattach) now i number error (claimed_key (length state.host.interfaces) (claim_tried state.host o number reattach)) r tried is)
-
-pub claim-refused : (s : SessionState) (state : State) (now : HostState) (d i key number : ℕ) (reattach : Bool) (o : OpenDevice) (error : ErrorState) → Represents s state → ClaimRefused state d i key number reattach o error now s
-claim-refused s state now d i key number reattach o error r =
-    subst (ClaimRefused state d i key number reattach o error now) (sym r) (refused-of state now d i key number reattach o error refl)
+claim-refused s state now d i key number reattach o error r at there free tried is =
+    rw (device-some s state d key o r at there, rw r at free, r)
+    (refused-by state (host_claimed state.host key number reattach) now i number error (claimed_key (length state.host.interfaces) (claim_tried state.host o number reattach)) (rw r at tried) (rw r at is))
 
 -- or that in which it is barred
 pub claim-none : (s : SessionState) (state : State) (d number i : ℕ) (reattach : Bool) → named s.devices d ≡ None → Represents s state → Gives s condition_line (claim_answer state d number i reattach)
@@ -75,8 +55,7 @@ claim-none s state d number i reattach none r = rw (device-none s state d r none
 pub claim-used : (s : SessionState) (state : State) (d key number i : ℕ) (reattach : Bool) (o : OpenDevice) → named s.devices d ≡ Some key → value_at s.host.devices key ≡ Some o → is_free s.interfaces i ≡ false → Represents s state → Gives s condition_line (claim_answer state d number i reattach)
 unfolding claim_answer
 claim-used s state d key number i reattach o at there used r =
-    let here : is_free state.interfaces i ≡ false = ap (λ (v : SessionState). is_free v.interfaces i) (sym r) ∙ used in
-    rw (device-some s state d key o r at there, here) (barred-gives s state r)
+    rw (device-some s state d key o r at there, rw r at used) (barred-gives s state r)
 
 pub claim-spare : {A : Type 0} (h now : HostState) (key number : ℕ) (reattach : Bool) (r : Result A (Fail ErrorState)) → Leaves r now (host_claimed h key number reattach) h → now.kernel.spare ≡ h.kernel.spare
 claim-spare h now key number reattach r is = left (λ (g : HostState). g.kernel.spare ≡ h.kernel.spare) r now (host_claimed h key number reattach) h is (line-claimed h key number reattach).spare refl

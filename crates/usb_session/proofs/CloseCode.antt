@@ -113,17 +113,15 @@ module _ (s S : SessionState) (now : HostState) (n : ℕ) (sound : IsSound s) (v
     pub closed-represents : (x : EndpointState) → named s.endpoints n ≡ Some x → now ≡ after_close host_calls s.host x → (state : State) → Represents S state → Represents (record s { host = now; endpoints = mid }) (closed state n)
     unfolding closed
     closed-represents x was bus state r =
-        let here = subst (λ v. Represents v state) (sym view) r in
+        let here = view ∙ r in
         let k = kept-at _ _ _ (endpoints_kept s state here) n x was in
         let host = closed-host s state now k.entry.state x here k.same bus in
-        rw (k.is, rest)
-        (subst (λ (g : HostState). Represents (record s { host = now; endpoints = freed s.endpoints n }) (record state { host = g; endpoints = freed state.endpoints n })) host
-        (represents-freed s state now n here))
+        rw (k.is, rest, ← host) (represents-freed s state now n here)
 
     pub none-closed_represents : named s.endpoints n ≡ None → (state : State) → Represents S state → Represents (record s { endpoints = mid }) (closed state n)
     unfolding closed
     none-closed_represents none state r =
-        let here = subst (λ v. Represents v state) (sym view) r in
+        let here = view ∙ r in
         rw (kept-none _ _ _ (endpoints_kept s state here) n none, rest, freed-none s.endpoints n none) here
 
   -- a reader, with its endpoint
@@ -135,17 +133,15 @@ module _ (s S : SessionState) (now : HostState) (n : ℕ) (sound : IsSound s) (v
     pub reader-represents : (x : ReaderState) → named s.readers n ≡ Some x → now ≡ after_close host_calls s.host x.endpoint → (state : State) → Represents S state → Represents (record s { host = now; readers = mid }) (reader_closed state n)
     unfolding reader_closed
     reader-represents x was bus state r =
-        let here = subst (λ v. Represents v state) (sym view) r in
+        let here = view ∙ r in
         let k = kept-at _ _ _ (readers_kept s state here) n x was in
         let host = closed-host s state now k.entry.state.endpoint x.endpoint here (ap reader_endpoint k.same) bus in
-        rw (k.is, rest)
-        (subst (λ (g : HostState). Represents (record s { host = now; readers = freed s.readers n }) (record state { host = g; readers = freed state.readers n })) host
-        (represents-reader_freed s state now n here))
+        rw (k.is, rest, ← host) (represents-reader_freed s state now n here)
 
     pub none-reader_represents : named s.readers n ≡ None → (state : State) → Represents S state → Represents (record s { readers = mid }) (reader_closed state n)
     unfolding reader_closed
     none-reader_represents none state r =
-        let here = subst (λ v. Represents v state) (sym view) r in
+        let here = view ∙ r in
         rw (kept-none _ _ _ (readers_kept s state here) n none, rest, freed-none s.readers n none) here
 
   -- a writer, with its endpoint
@@ -157,15 +153,13 @@ module _ (s S : SessionState) (now : HostState) (n : ℕ) (sound : IsSound s) (v
     pub writer-represents : (x : WriterState) → named s.writers n ≡ Some x → now ≡ after_close host_calls s.host x.endpoint → (state : State) → Represents S state → Represents (record s { host = now; writers = mid }) (writer_closed state n)
     unfolding writer_closed
     writer-represents x was bus state r =
-        let here = subst (λ v. Represents v state) (sym view) r in
+        let here = view ∙ r in
         let k = kept-at _ _ _ (writers_kept s state here) n x was in
         let host = closed-host s state now k.entry.state.endpoint x.endpoint here (ap writer_endpoint k.same) bus in
-        rw (k.is, rest)
-        (subst (λ (g : HostState). Represents (record s { host = now; writers = freed s.writers n }) (record state { host = g; writers = freed state.writers n })) host
-        (represents-writer_freed s state now n here))
+        rw (k.is, rest, ← host) (represents-writer_freed s state now n here)
 
     pub none-writer_represents : named s.writers n ≡ None → (state : State) → Represents S state → Represents (record s { writers = mid }) (writer_closed state n)
     unfolding writer_closed
     none-writer_represents none state r =
-        let here = subst (λ v. Represents v state) (sym view) r in
+        let here = view ∙ r in
         rw (kept-none _ _ _ (writers_kept s state here) n none, rest, freed-none s.writers n none) here

@@ -84,10 +84,8 @@ unfolding start_answer
 start-gives s state now after n f request timeout target o r bars free number put future is =
     let b = begun o f s.host request timeout future in
     let there : device_of_target state target ≡ Some b.device = number-is s state target r ∙ sym number ∙ b.some in
-    let free_there : is_free state.futures n ≡ true = ap (λ (v : SessionState). is_free v.futures n) (sym r) ∙ free in
-    let open_there : bars_control state.host.kernel.past ≡ false = ap (λ (h : HostState). bars_control h.kernel.past) (sym (host_is s state r)) ∙ bars in
     let host : now ≡ request_started s.host b.device request timeout = is ∙ ap (started_host s.host request timeout) b.some in
-    rw (there, free_there, open_there)
+    rw (there, rw r at free, rw r at bars)
     (record {
       state =
           ap (λ (h : HostState). record s { host = h; futures = after }) host
@@ -121,22 +119,16 @@ start-none s state now n request timeout target o r number none is =
 pub start-used : (s : SessionState) (state : State) (n : ℕ) (request : TransferData) (timeout : ℕ) (target : ControlTarget) → Represents s state → is_free s.futures n ≡ false → Gives s condition_line (start_answer state n target request timeout)
 unfolding start_answer
 start-used s state n request timeout target r used =
-    let there : is_free state.futures n ≡ false = ap (λ (v : SessionState). is_free v.futures n) (sym r) ∙ used in
-    barred-by s state n request timeout (device_of_target state target) r (λ device some. rw there (barred-gives s state r))
+    barred-by s state n request timeout (device_of_target state target) r (λ device some. rw (rw r at used) (barred-gives s state r))
 
 pub start-bars : (s : SessionState) (state : State) (n : ℕ) (request : TransferData) (timeout : ℕ) (target : ControlTarget) → Represents s state → bars_control s.host.kernel.past ≡ true → Gives s condition_line (start_answer state n target request timeout)
 unfolding start_answer
 start-bars s state n request timeout target r bars =
-    let there : bars_control state.host.kernel.past ≡ true = ap (λ (h : HostState). bars_control h.kernel.past) (sym (host_is s state r)) ∙ bars in
-    barred-by s state n request timeout (device_of_target state target) r (λ device some. rw there (both (is_free state.futures n) (barred-gives s state r)))
+    barred-by s state n request timeout (device_of_target state target) r (λ device some. rw (rw r at bars) (both (is_free state.futures n) (barred-gives s state r)))
   where
     both : (b : Bool) → Gives s condition_line (condition_answer state) → Gives s condition_line (cond b (condition_answer state) (condition_answer state))
     both true gives = gives
     both false gives = gives
-
--- what is open under a name of a future
-future-at : (s : SessionState) (state : State) (n : ℕ) (o : Option FutureState) → Represents s state → named s.futures n ≡ o → named state.futures n ≡ o
-future-at s state n o r at = ap (λ (v : SessionState). named v.futures n) (sym r) ∙ at
 
 pub future-same_sound : (s : SessionState) (after : List (Option FutureState)) → IsSound s → after ≡ s.futures → IsSound (record s { futures = after })
 future-same_sound s after sound same = subst (λ (l : List (Option FutureState)). IsSound (record s { futures = l })) (sym same) sound
@@ -145,7 +137,7 @@ future-same_sound s after sound same = subst (λ (l : List (Option FutureState))
 pub none-gives : (s : SessionState) (state : State) (after : List (Option FutureState)) (n : ℕ) (call : FutureState → Answer) → Represents s state → named s.futures n ≡ None → after ≡ freed s.futures n → Gives (record s { futures = after }) condition_line (if_open (named state.futures n) call (condition_answer state))
 none-gives s state after n call r none rest =
     let same : s.futures ≡ after = sym (rest ∙ freed-none s.futures n none) in
-    rw (future-at s state n None r none) (subst (λ (l : List (Option FutureState)). Gives (record s { futures = l }) condition_line (condition_answer state)) same (barred-gives s state r))
+    rw (rw r at none) (subst (λ (l : List (Option FutureState)). Gives (record s { futures = l }) condition_line (condition_answer state)) same (barred-gives s state r))
 
 -- its answer was taken
 taken-is : (h now : HostState) (f after : FutureState) (last : HostState) → now ≡ future_taken h f → after ≡ spent_future f → last ≡ future_closed now after → last ≡ future_taken h f
@@ -163,18 +155,15 @@ polled-by : (s : SessionState) (state : State) (last : HostState) (after : List 
 polled-by s state last after n f None answer r rest is came = absurd (cc)
 polled-by s state last after n f (Some given) answer r rest is came =
     record {
-      state =
-          ap (λ (h : HostState). record s { host = h; futures = after }) is
-          ∙ ap (λ (l : List (Option FutureState)). record s { host = future_taken s.host f; futures = l }) rest
-          ∙ ap (λ (v : SessionState). record v { host = future_taken v.host f; futures = freed v.futures n }) r;
+      state = rw (is, rest, r) refl;
       same = ap received_line (same_Some given answer came);
     }
 
 pub polled-gives : (s : SessionState) (state : State) (now last : HostState) (after : List (Option FutureState)) (n : ℕ) (f y : FutureState) (answer : Result (List ℕ) TransferError) → Represents s state → named s.futures n ≡ Some f → after ≡ freed s.futures n → now ≡ future_taken s.host f → y ≡ spent_future f → last ≡ future_closed now y → future_answer s.host f ≡ Some answer → Gives (record s { host = last; futures = after }) (received_line answer) (on_future state n Poll)
 unfolding on_future
 polled-gives s state now last after n f y answer r was rest taken spent closed came =
-    rw (future-at s state n (Some f) r was)
-    (polled-by s state last after n f (future_answer state.host f) answer r rest (taken-is s.host now f y last taken spent closed) (ap (λ (h : HostState). future_answer h f) (sym (host_is s state r)) ∙ came))
+    rw (rw r at was)
+    (polled-by s state last after n f (future_answer state.host f) answer r rest (taken-is s.host now f y last taken spent closed) (rw r at came))
 
 -- or is not there yet
 pub pending-same : (s : SessionState) (mid after : List (Option FutureState)) (n : ℕ) (f y : FutureState) → named s.futures n ≡ Some f → mid ≡ freed s.futures n → y ≡ f → after ≡ set_name mid n y → after ≡ s.futures
@@ -191,8 +180,8 @@ pending-by s state n f (Some given) r none = absurd (cc)
 pub pending-gives : (s : SessionState) (state : State) (now : HostState) (after : List (Option FutureState)) (n : ℕ) (f : FutureState) → Represents s state → named s.futures n ≡ Some f → now ≡ s.host → after ≡ s.futures → future_answer s.host f ≡ None → Gives (record s { host = now; futures = after }) pending_line (on_future state n Poll)
 unfolding on_future
 pending-gives s state now after n f r was host same none =
-    rw (future-at s state n (Some f) r was, host, same)
-    (pending-by s state n f (future_answer state.host f) r (ap (λ (h : HostState). future_answer h f) (sym (host_is s state r)) ∙ none))
+    rw (rw r at was, host, same)
+    (pending-by s state n f (future_answer state.host f) r (rw r at none))
 
 -- one that is waited for, with the steps of the line
 pub wait-stands : (s : SessionState) (steps : List KernelStep) (at : HostState) (n : ℕ) (f : FutureState) → IsSound s → at ≡ record s.host { steps = steps } → named s.futures n ≡ Some f → StandsFuture at f
@@ -217,13 +206,10 @@ waited-spare S s steps at now last n f sound view is was taken rest room =
 pub waited-gives : (s : SessionState) (state : State) (now : HostState) (after : List (Option FutureState)) (n : ℕ) (f : FutureState) (answer : Result (List ℕ) TransferError) → Represents s state → named s.futures n ≡ Some f → after ≡ freed s.futures n → now ≡ future_taken (future_awaited s.host f) f → future_answer (future_awaited s.host f) f ≡ Some answer
     → Gives (record s { host = now; futures = after }) (received_line answer) (if_open (named state.futures n) (future_waited state n) (condition_answer state))
 waited-gives s state now after n f answer r was free taken came =
-    rw (future-at s state n (Some f) r was)
+    rw (rw r at was)
     (record {
-      state =
-          ap (λ (h : HostState). record s { host = h; futures = after }) taken
-          ∙ ap (λ (l : List (Option FutureState)). record s { host = future_taken (future_awaited s.host f) f; futures = l }) free
-          ∙ ap (λ (v : SessionState). record v { host = future_taken (future_awaited v.host f) f; futures = freed v.futures n }) r;
-      same = ap (came_line received_line) (ap (λ (h : HostState). future_answer (future_awaited h f) f) (sym (host_is s state r)) ∙ came);
+      state = rw (taken, free, r) refl;
+      same = ap (came_line received_line) (rw r at came);
     })
 
 -- nothing was open under the name: the steps are applied all the same

@@ -1,5 +1,5 @@
 -- Futures are closed.
-use Rattle.std.proofs.Common.{◌≡◌, ℕ, List, Option, Some, None, ap, sym, ◌∙◌, subst}
+use Rattle.std.proofs.Common.{◌≡◌, ℕ, List, Option, Some, None, refl, ap, sym, ◌∙◌, subst}
 use Rattle.usb_device_host.specs.HostState.{HostState}
 use Rattle.usb_device.specs.Futures.{FutureState, future_closed}
 use Rattle.usb_device.proofs.FutureFrames.{stays-closed}
@@ -24,26 +24,12 @@ pub future-closed_spare : (h now : HostState) (f : FutureState) → now ≡ futu
 future-closed_spare h now f is = ap (λ (g : HostState). g.kernel.spare) is ∙ (stays-closed h f).line.spare
 
 -- the state behind the close
-future-represents : (s : SessionState) (state : State) (after : List (Option FutureState)) (n : ℕ) (f : FutureState) → Represents s state → named s.futures n ≡ Some f → after ≡ freed s.futures n → Represents (record s { host = future_closed s.host f; futures = after }) (future_closed_under state n)
-unfolding future_closed_under
-future-represents s state after n f r was rest =
-    let here : named state.futures n ≡ Some f = ap (λ (v : SessionState). named v.futures n) (sym r) ∙ was in
-    rw here
-    (ap (λ (l : List (Option FutureState)). record s { host = future_closed s.host f; futures = l }) rest
-    ∙ ap (λ (v : SessionState). record v { host = future_closed v.host f; futures = freed v.futures n }) r)
-
-future-none : (s : SessionState) (state : State) (n : ℕ) → Represents s state → named s.futures n ≡ None → Represents s (future_closed_under state n)
-unfolding future_closed_under
-future-none s state n r none =
-    let here : named state.futures n ≡ None = ap (λ (v : SessionState). named v.futures n) (sym r) ∙ none in
-    rw here r
-
 pub close_future-code : (S s : SessionState) (now : HostState) (after : List (Option FutureState)) (n : ℕ) (f : FutureState) → s ≡ S → named s.futures n ≡ Some f → after ≡ freed s.futures n → now ≡ future_closed s.host f → (state : State) → Represents S state → Represents (record s { host = now; futures = after }) (future_closed_under state n)
+unfolding future_closed_under
 close_future-code S s now after n f view was rest closed state r =
-    subst (λ (g : HostState). Represents (record s { host = g; futures = after }) (future_closed_under state n)) (sym closed)
-    (future-represents s state after n f (subst (λ v. Represents v state) (sym view) r) was rest)
+    rw (rw (view ∙ r) at was, rest, closed, view ∙ r) refl
 
 pub future-nothing : (S s : SessionState) (after : List (Option FutureState)) (n : ℕ) → s ≡ S → named s.futures n ≡ None → after ≡ freed s.futures n → (state : State) → Represents S state → Represents (record s { futures = after }) (future_closed_under state n)
+unfolding future_closed_under
 future-nothing S s after n view none rest state r =
-    subst (λ (l : List (Option FutureState)). Represents (record s { futures = l }) (future_closed_under state n)) (sym (rest ∙ freed-none s.futures n none))
-    (future-none s state n (subst (λ v. Represents v state) (sym view) r) none)
+    rw (rw (view ∙ r) at none, rest, freed-none s.futures n none) (view ∙ r)

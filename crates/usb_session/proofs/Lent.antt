@@ -1,5 +1,5 @@
 -- Lines with steps of their own: the steps are lent, a call is made, and the rest of them is applied.
-use Rattle.std.proofs.Common.{◌≡◌, ℕ, ◌≤◌, ◌+◌, List, length, Option, Some, Result, Ok, Err, Bool, String, string_bytes, ap, sym, ◌∙◌, subst}
+use Rattle.std.proofs.Common.{◌≡◌, ℕ, ◌≤◌, ◌+◌, List, length, Option, Some, Result, Ok, Err, Bool, String, string_bytes, refl, ap, sym, ◌∙◌, subst}
 use Rattle.std.specs.declared.alloc.Global.{Global}
 use Rattle.usb_device_ledger.proofs.DeviceLemmas.{counts-same}
 use Rattle.usb_kernel_devices.specs.declared.step.KernelStep.{KernelStep}
@@ -70,15 +70,13 @@ sound-lent s steps at now last es rs ws e x y sound is was replaces keeps rest =
 
 -- the session to which the steps are lent
 represents-lent : (s : SessionState) (steps : List KernelStep) (at : HostState) → at ≡ record s.host { steps = steps } → (state : State) → Represents s state → Represents (record s { host = at }) (with_steps state steps)
-represents-lent s steps at is state r =
-    subst (λ (h : HostState). Represents (record s { host = at }) (with_host state h)) (is ∙ ap (λ (h : HostState). record h { steps = steps }) (host_is s state r)) (represents-host s state at r)
+represents-lent s steps at is state r = rw (is, r) refl
 
 -- its answer, and then the rest of the steps
 rested-answered : (s : SessionState) (now : HostState) (before after : List ℕ) (a : Answer) → s.host ≡ now → Answered s before after a → Answered (record s { host = host_rest now }) before after (then_applied a)
 rested-answered s now before after a is answered =
     record {
-      state = subst (λ (h : HostState). Represents (record s { host = host_rest now }) (with_host a.state (host_rest h))) (sym is ∙ host_is s a.state answered.state)
-          (represents-host s a.state (host_rest now) answered.state);
+      state = rw (← is, answered.state) refl;
       line = answered.line;
     }
 
@@ -90,7 +88,7 @@ answers-along S s after steps at now last before text (Ok done) call view is hos
     λ state r.
     subst (λ (h : HostState). Answered (record after { host = h }) (string_bytes before) (string_bytes text) (along_steps state steps call)) (sym rest)
     (rested-answered after now (string_bytes before) (string_bytes text) (call (with_steps state steps)) host
-    (answers (with_steps state steps) (represents-lent s steps at is state (subst (λ v. Represents v state) (sym view) r))))
+    (answers (with_steps state steps) (represents-lent s steps at is state (view ∙ r))))
 
 -- nothing was called
 pub sound-stepped : (s : SessionState) (steps : List KernelStep) (at last : HostState) → IsSound s → at ≡ record s.host { steps = steps } → last ≡ host_rest at → IsSound (record s { host = last })
@@ -98,11 +96,7 @@ sound-stepped s steps at last sound is rest = sound-controlled s steps at at las
 
 pub steps-represent : (s S : SessionState) (steps : List KernelStep) (at last : HostState) → s ≡ S → at ≡ record s.host { steps = steps } → last ≡ host_rest at → (state : State) → Represents S state → Represents (record s { host = last }) (stepped_all state steps)
 unfolding stepped_all
-steps-represent s S steps at last view is rest state r =
-    let here = subst (λ v. Represents v state) (sym view) r in
-    subst (λ (h : HostState). Represents (record s { host = last }) (with_host state h))
-    (rest ∙ ap host_rest is ∙ ap (λ (h : HostState). host_rest (record h { steps = steps })) (host_is s state here))
-    (represents-host s state last here)
+steps-represent s S steps at last view is rest state r = rw (rest, is, view ∙ r) refl
 
 -- each step of the line used a place
 pub spare-lent : (s S : SessionState) (steps : List KernelStep) (at now last : HostState) → s ≡ S → at ≡ record s.host { steps = steps } → LineGoesOn at now → last ≡ host_rest now → length steps ≤ S.host.kernel.spare → last.kernel.spare + length steps ≡ S.host.kernel.spare

@@ -75,54 +75,32 @@ open-sound s now after d key bus address sound tried is stands free put =
     (open-here s after d key bus address sound tried (subst (λ (h : HostState). StandsDevice h key) is stands) free put)
 
 -- the state in which it is open
-open-by : (state : State) (host now : HostState) (after : List (Option ℕ)) (d key : ℕ) (t : Result ℕ ErrorState) → Represents (session_of state) state → t ≡ Ok key → now ≡ host → after ≡ set_name state.devices d key → Gives (record (session_of state) { host = now; devices = after }) ok_line (opened_as (with_host state host) d t)
-open-by state host now after d key (Err error) r tried is put = absurd (cc)
-open-by state host now after d key (Ok k) r tried is put =
+open-by : (state : State) (host now : HostState) (after : List (Option ℕ)) (d key : ℕ) (t : Result ℕ ErrorState) → t ≡ Ok key → now ≡ host → after ≡ set_name state.devices d key → Gives (record (session_of state) { host = now; devices = after }) ok_line (opened_as (with_host state host) d t)
+open-by state host now after d key (Err error) tried is put = absurd (cc)
+open-by state host now after d key (Ok k) tried is put =
     let same : k ≡ key = cc in
-    record {
-      state =
-          ap (λ (g : HostState). record (session_of state) { host = g; devices = after }) is
-          ∙ ap (λ (l : List (Option ℕ)). record (session_of state) { host = host; devices = l }) (put ∙ ap (set_name state.devices d) (sym same));
-      same = refl;
-    }
+    record { state = rw (is, put, same) refl; same = refl }
 
-abbrev OpenGives : State → ℕ → ℕ → ℕ → ℕ → HostState → List (Option ℕ) → SessionState → Type 0
-OpenGives state d key bus address now after v = is_free v.devices d ≡ true → open_key v.host bus address ≡ Ok key → now ≡ host_opened v.host bus address → after ≡ set_name v.devices d key → Gives (record v { host = now; devices = after }) ok_line (open_answer state d bus address)
-
-open-of : (state : State) (now : HostState) (after : List (Option ℕ)) (d key bus address : ℕ) → Represents (session_of state) state → OpenGives state d key bus address now after (session_of state)
+pub open-gives : (s : SessionState) (state : State) (now : HostState) (after : List (Option ℕ)) (d key bus address : ℕ) → Represents s state → is_free s.devices d ≡ true → open_key s.host bus address ≡ Ok key → now ≡ host_opened s.host bus address → after ≡ set_name s.devices d key → Gives (record s { host = now; devices = after }) ok_line (open_answer state d bus address)
 unfolding open_answer
-open-of state now after d key bus address r free tried is put = rw free (open-by state (host_opened state.host bus address) now after d key (open_key state.host bus address) r tried is put)
-
-pub open-gives : (s : SessionState) (state : State) (now : HostState) (after : List (Option ℕ)) (d key bus address : ℕ) → Represents s state → OpenGives state d key bus address now after s
-open-gives s state now after d key bus address r =
-    subst (OpenGives state d key bus address now after) (sym r) (open-of state now after d key bus address refl)
+open-gives s state now after d key bus address r free tried is put =
+    rw (rw r at free, r) (open-by state (host_opened state.host bus address) now after d key (open_key state.host bus address) (rw r at tried) (rw r at is) (rw r at put))
 
 -- or that in which it is refused
-refused-by : (state : State) (host now : HostState) (d : ℕ) (error : ErrorState) (t : Result ℕ ErrorState) → Represents (session_of state) state → t ≡ Err error → now ≡ host → Gives (record (session_of state) { host = now }) (error_line error) (opened_as (with_host state host) d t)
-refused-by state host now d error (Err other) r tried is =
-    record {
-      state = subst (λ (g : HostState). Represents (record (session_of state) { host = now }) (with_host state g)) is (represents-host (session_of state) state now r);
-      same = let same : other ≡ error = cc in ap error_line same;
-    }
-refused-by state host now d error (Ok key) r tried is = absurd (cc)
+refused-by : (state : State) (host now : HostState) (d : ℕ) (error : ErrorState) (t : Result ℕ ErrorState) → t ≡ Err error → now ≡ host → Gives (record (session_of state) { host = now }) (error_line error) (opened_as (with_host state host) d t)
+refused-by state host now d error (Err other) tried is =
+    let same : other ≡ error = cc in record { state = rw is refl; same = ap error_line same }
+refused-by state host now d error (Ok key) tried is = absurd (cc)
 
-abbrev OpenRefused : State → ℕ → ℕ → ℕ → ErrorState → HostState → SessionState → Type 0
-OpenRefused state d bus address error now v = is_free v.devices d ≡ true → open_key v.host bus address ≡ Err error → now ≡ host_opened v.host bus address → Gives (record v { host = now }) (error_line error) (open_answer state d bus address)
-
-refused-of : (state : State) (now : HostState) (d bus address : ℕ) (error : ErrorState) → Represents (session_of state) state → OpenRefused state d bus address error now (session_of state)
+pub open-refused : (s : SessionState) (state : State) (now : HostState) (d bus address : ℕ) (error : ErrorState) → Represents s state → is_free s.devices d ≡ true → open_key s.host bus address ≡ Err error → now ≡ host_opened s.host bus address → Gives (record s { host = now }) (error_line error) (open_answer state d bus address)
 unfolding open_answer
-refused-of state now d bus address error r free tried is = rw free (refused-by state (host_opened state.host bus address) now d error (open_key state.host bus address) r tried is)
-
-pub open-refused : (s : SessionState) (state : State) (now : HostState) (d bus address : ℕ) (error : ErrorState) → Represents s state → OpenRefused state d bus address error now s
-open-refused s state now d bus address error r =
-    subst (OpenRefused state d bus address error now) (sym r) (refused-of state now d bus address error refl)
+open-refused s state now d bus address error r free tried is =
+    rw (rw r at free, r) (refused-by state (host_opened state.host bus address) now d error (open_key state.host bus address) (rw r at tried) (rw r at is))
 
 -- or that in which it is barred
 pub open-barred : (s : SessionState) (state : State) (d bus address : ℕ) → Represents s state → is_free s.devices d ≡ false → Gives s condition_line (open_answer state d bus address)
 unfolding open_answer
-open-barred s state d bus address r used =
-    let here : is_free state.devices d ≡ false = ap (λ (v : SessionState). is_free v.devices d) (sym r) ∙ used in
-    rw here (barred-gives s state r)
+open-barred s state d bus address r used = rw (rw r at used) (barred-gives s state r)
 
 pub open-spare : {A : Type 0} (h now : HostState) (bus address : ℕ) (r : Result A (Fail ErrorState)) → Leaves r now (host_opened h bus address) h → now.kernel.spare ≡ h.kernel.spare
 open-spare h now bus address r is =

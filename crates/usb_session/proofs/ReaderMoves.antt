@@ -9,7 +9,7 @@ use Rattle.usb_io.specs.Readers.{ReaderState, fresh_reader}
 use Rattle.usb_session_text.specs.Calls.{condition_line, ok_line}
 use Rattle.usb_session_calls.specs.Names.{named, is_free, freed, set_name}
 use Rattle.usb_session_calls.specs.EndpointNames.{Own, OfReader}
-use Rattle.usb_session_calls.specs.State.{State, Reader, tickets_at, endpoint_of_reader}
+use Rattle.usb_session_calls.specs.State.{State, Endpoint, Reader, tickets_at, endpoint_of_reader}
 use Rattle.usb_session_calls.specs.Readers.{nothing_consumed, with_reader, reader_answer, without_reader, inner_answer}
 use Rattle.usb_session_calls.specs.Submits.{has_direction}
 use Rattle.usb_session_calls.specs.Answer.{ok_answer}
@@ -17,17 +17,18 @@ use Rattle.usb_session_calls.specs.SessionState.{SessionState, IsSound, open_und
 use Rattle.usb_session_calls.specs.Relation.{Represents}
 use Rattle.usb_session_calls.proofs.Answering.{Gives, barred-gives, host_is}
 use Rattle.usb_session_calls.proofs.EndpointNameLemmas.{set-changes, freed-changes}
-use Rattle.usb_session_calls.proofs.NameLemmas.{free-none, length-freed, length-set_name}
-use Rattle.usb_session_calls.proofs.Called.{own-open, reader-open, represents-open, represents-freed, represents-set, represents-reader_freed, endpoints_kept, readers_kept, writers_kept, set-kept}
+use Rattle.usb_session_calls.proofs.NameLemmas.{free-none, length-freed, length-set_name, map-freed, map-set}
+use Rattle.usb_session_calls.proofs.Called.{own-open, reader-open, endpoints_kept, readers_kept, writers_kept}
 use Rattle.usb_session.proofs.KeptNames.{kept-at, kept-none, kept-free}
 use Rattle.usb_session.proofs.Replaced.{reader_endpoint}
 use Rattle.usb_session.proofs.Moves.{Moves, sound-moved, is-direction, not-direction, barred-used, barred-direction}
 
--- a reader is open under a name
-represents-made : (s : SessionState) (state : State) (now : HostState) (n : ℕ) (x : Reader) → Represents s state → Represents (record s { host = now; readers = set_name s.readers n x.state }) (record state { host = now; readers = set_name state.readers n x })
-represents-made s state now n x r =
-    represents-open s state now s.endpoints (set_name s.readers n x.state) s.writers state.endpoints (set_name state.readers n x) state.writers r
-    (endpoints_kept s state r) (set-kept (λ (z : Reader). z.state) state.readers s.readers n x (readers_kept s state r)) (writers_kept s state r)
+-- a reader is open in place of an endpoint, and an endpoint in place of a reader
+represents-made : (s : SessionState) (state : State) (e r : ℕ) (x : Reader) → Represents s state → Represents (record s { endpoints = freed s.endpoints e; readers = set_name s.readers r x.state }) (record state { endpoints = freed state.endpoints e; readers = set_name state.readers r x })
+represents-made s state e r x is = rw (is, map-freed (λ (z : Endpoint). z.state) state.endpoints e, map-set (λ (z : Reader). z.state) state.readers r x) refl
+
+represents-given_back : (s : SessionState) (state : State) (e r : ℕ) (h : Endpoint) → Represents s state → Represents (record s { endpoints = set_name s.endpoints e h.state; readers = freed s.readers r }) (record state { endpoints = set_name state.endpoints e h; readers = freed state.readers r })
+represents-given_back s state e r h is = rw (is, map-set (λ (z : Endpoint). z.state) state.endpoints e h, map-freed (λ (z : Reader). z.state) state.readers r) refl
 
 -- the endpoint of the name e, and the reader of the name r
 module _ (s : SessionState) (e r : ℕ) where
@@ -72,11 +73,7 @@ module _ (s : SessionState) (e r : ℕ) where
         let same : new.state ≡ y = ap (λ (z : EndpointState). fresh_reader z size) k.same ∙ sym fresh in
         let input : has_direction In h.state ≡ true = ap (has_direction In) k.same ∙ is-direction In x direction in
         rw (k.is, there, input, rest, put, ← same)
-        (record {
-          state = subst (λ (host : HostState). Represents (record s { endpoints = freed s.endpoints e; readers = set_name s.readers r new.state }) (record state { host = host; endpoints = freed state.endpoints e; readers = set_name state.readers r new })) (host_is s state is)
-              (represents-made (record s { endpoints = freed s.endpoints e }) (record state { host = s.host; endpoints = freed state.endpoints e }) s.host r new (represents-freed s state s.host e is));
-          same = refl;
-        })
+        (record { state = represents-made s state e r new is; same = refl })
 
   -- or its name is in use, nothing is open under the endpoint's, or that is not an IN endpoint
   pub reader-used : (size : ℕ) (state : State) → is_free s.readers r ≡ false → Represents s state → Gives s condition_line (reader_answer state r e size)
@@ -110,11 +107,7 @@ module _ (s : SessionState) (e r : ℕ) where
         let own : is_free state.endpoints e ≡ true = kept-free _ _ _ (endpoints_kept s state is) e ∙ free in
         let seen : k.entry.state.endpoint ≡ x = ap reader_endpoint k.same ∙ sym same in
         rw (k.is, own, put, rest, ← seen)
-        (record {
-          state = subst (λ (host : HostState). Represents (record s { endpoints = set_name s.endpoints e k.entry.state.endpoint; readers = freed s.readers r }) (record state { host = host; endpoints = set_name state.endpoints e (endpoint_of_reader k.entry); readers = freed state.readers r })) (host_is s state is)
-              (represents-set (record s { readers = freed s.readers r }) (record state { host = s.host; readers = freed state.readers r }) s.host e (endpoint_of_reader k.entry) (represents-reader_freed s state s.host r is));
-          same = refl;
-        })
+        (record { state = represents-given_back s state e r (endpoint_of_reader k.entry) is; same = refl })
 
   -- or its name is in use, or no reader is open under that name
   pub inner-used : (state : State) → is_free s.endpoints e ≡ false → Represents s state → Gives s condition_line (inner_answer state e r)

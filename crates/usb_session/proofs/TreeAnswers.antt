@@ -34,53 +34,43 @@ use Rattle.usb_session_calls.proofs.Answering.{Gives, barred-gives}
 
 pub list-gives : (s : SessionState) (state : State) (found : List DeviceFacts) → devices s.tree ≡ Ok found → Represents s state → Gives s (devices_line found) (list_answer state)
 unfolding list_answer
-list-gives s state found is r =
-    rw (rw r at is) (record { state = r; same = refl })
+list-gives s state found is r = rw (rw r at is) (record { state = r; same = refl })
 
 pub list-refused : (s : SessionState) (state : State) (error : ErrorState) → devices s.tree ≡ Err error → Represents s state → Gives s (error_line error) (list_answer state)
 unfolding list_answer
-list-refused s state error is r =
-    rw (rw r at is) (record { state = r; same = refl })
+list-refused s state error is r = rw (rw r at is) (record { state = r; same = refl })
 
 pub buses-gives : (s : SessionState) (state : State) (found : List BusFacts) → buses s.tree ≡ Ok found → Represents s state → Gives s (buses_line found) (buses_answer state)
 unfolding buses_answer
-buses-gives s state found is r =
-    rw (rw r at is) (record { state = r; same = refl })
+buses-gives s state found is r = rw (rw r at is) (record { state = r; same = refl })
 
 pub buses-refused : (s : SessionState) (state : State) (error : ErrorState) → buses s.tree ≡ Err error → Represents s state → Gives s (error_line error) (buses_answer state)
 unfolding buses_answer
-buses-refused s state error is r =
-    rw (rw r at is) (record { state = r; same = refl })
+buses-refused s state error is r = rw (rw r at is) (record { state = r; same = refl })
 
 pub probe-gives : (s : SessionState) (state : State) (path : List ℕ) (device : DeviceFacts) → probe s.tree path ≡ Ok device → Represents s state → Gives s (info_line device) (probe_answer state path)
 unfolding probe_answer
-probe-gives s state path device is r =
-    rw (rw r at is) (record { state = r; same = refl })
+probe-gives s state path device is r = rw (rw r at is) (record { state = r; same = refl })
 
 pub probe-refused : (s : SessionState) (state : State) (path : List ℕ) (error : SysfsError) → probe s.tree path ≡ Err error → Represents s state → Gives s (sysfs_line error) (probe_answer state path)
 unfolding probe_answer
-probe-refused s state path error is r =
-    rw (rw r at is) (record { state = r; same = refl })
+probe-refused s state path error is r = rw (rw r at is) (record { state = r; same = refl })
 
 pub match-gives : (s : SessionState) (state : State) (path : List ℕ) (selector : List Criterion) (is_match : Bool) → matched s.tree path selector ≡ Ok is_match → Represents s state → Gives s (match_line is_match) (match_answer state path selector)
 unfolding match_answer
-match-gives s state path selector is_match is r =
-    rw (rw r at is) (record { state = r; same = refl })
+match-gives s state path selector is_match is r = rw (rw r at is) (record { state = r; same = refl })
 
 pub match-refused : (s : SessionState) (state : State) (path : List ℕ) (selector : List Criterion) (error : SysfsError) → matched s.tree path selector ≡ Err error → Represents s state → Gives s (sysfs_line error) (match_answer state path selector)
 unfolding match_answer
-match-refused s state path selector error is r =
-    rw (rw r at is) (record { state = r; same = refl })
+match-refused s state path selector error is r = rw (rw r at is) (record { state = r; same = refl })
 
 -- one packet is looked at
 pub hotplug-gives : (s : SessionState) (state : State) (after : List UdevPacket) (event : Poll HotplugEvent) → event ≡ hotplug_polled s.tree s.packets → after ≡ drop 1 s.packets → Represents s state → Gives (record s { packets = after }) (hotplug_line event) (hotplug_answer state)
 unfolding hotplug_answer
 hotplug-gives s state after event answer_with left r =
     record {
-      state =
-          ap (λ (l : List UdevPacket). record s { packets = l }) left
-          ∙ ap (λ (v : SessionState). record v { packets = drop 1 v.packets }) r;
-      same = ap hotplug_line (ap (λ (v : SessionState). hotplug_polled v.tree v.packets) (sym r) ∙ sym answer_with);
+      state = rw (left, r) refl;
+      same = ap hotplug_line (sym (rw r at answer_with));
     }
 
 pub sound-packets : (s : SessionState) (after : List UdevPacket) → IsSound s → IsSound (record s { packets = after })
@@ -116,19 +106,14 @@ opens_found state d path device free found = rw (free, found) refl
 pub answers-found : {E : Type 0} (S now : SessionState) (before after : String Global) (r : Result Unit E) (d : ℕ) (path : List ℕ) (device : DeviceFacts) → is_free S.devices d ≡ true → probe S.tree path ≡ Ok device → Answers S now before after r (λ state. open_answer state d device.numbers.busnum device.numbers.address) → Answers S now before after r (λ state. open_path_answer state d path)
 answers-found S now before after (Ok done) d path device free found answers =
     λ state r.
-    let here : is_free state.devices d ≡ true = ap (λ (v : SessionState). is_free v.devices d) (sym r) ∙ free in
-    let there : probe state.tree path ≡ Ok device = ap (λ (v : SessionState). probe v.tree path) (sym r) ∙ found in
-    subst (λ (a : Answer). Answered now (string_bytes before) (string_bytes after) a) (opens_found state d path device here there) (answers state r)
+    subst (λ (a : Answer). Answered now (string_bytes before) (string_bytes after) a) (opens_found state d path device (rw r at free) (rw r at found)) (answers state r)
 answers-found S now before after (Err error) d path device free found answers = tt
 
 pub open_path-refused : (s : SessionState) (state : State) (d : ℕ) (path : List ℕ) (error : SysfsError) → is_free s.devices d ≡ true → probe s.tree path ≡ Err error → Represents s state → Gives s (sysfs_line error) (open_path_answer state d path)
 unfolding open_path_answer
 open_path-refused s state d path error free is r =
-    let here : is_free state.devices d ≡ true = ap (λ (v : SessionState). is_free v.devices d) (sym r) ∙ free in
-    let there : probe state.tree path ≡ Err error = ap (λ (v : SessionState). probe v.tree path) (sym r) ∙ is in
-    rw (here, there) (record { state = r; same = refl })
+    rw (rw r at free, rw r at is) (record { state = r; same = refl })
 
 pub open_path-barred : (s : SessionState) (state : State) (d : ℕ) (path : List ℕ) → is_free s.devices d ≡ false → Represents s state → Gives s condition_line (open_path_answer state d path)
 unfolding open_path_answer
-open_path-barred s state d path used r =
-    rw (rw r at used) (barred-gives s state r)
+open_path-barred s state d path used r = rw (rw r at used) (barred-gives s state r)

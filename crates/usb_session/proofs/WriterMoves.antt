@@ -9,7 +9,7 @@ use Rattle.usb_io.specs.Writers.{WriterState, fresh_writer}
 use Rattle.usb_session_text.specs.Calls.{condition_line, ok_line}
 use Rattle.usb_session_calls.specs.Names.{named, is_free, freed, set_name}
 use Rattle.usb_session_calls.specs.EndpointNames.{Own, OfWriter}
-use Rattle.usb_session_calls.specs.State.{State, Writer, tickets_at, endpoint_of_writer}
+use Rattle.usb_session_calls.specs.State.{State, Endpoint, Writer, tickets_at, endpoint_of_writer}
 use Rattle.usb_session_calls.specs.Writers.{nothing_called, with_writer, writer_answer, without_writer, writer_inner_answer}
 use Rattle.usb_session_calls.specs.Submits.{has_direction}
 use Rattle.usb_session_calls.specs.Answer.{ok_answer}
@@ -17,17 +17,18 @@ use Rattle.usb_session_calls.specs.SessionState.{SessionState, IsSound, open_und
 use Rattle.usb_session_calls.specs.Relation.{Represents}
 use Rattle.usb_session_calls.proofs.Answering.{Gives, barred-gives, host_is}
 use Rattle.usb_session_calls.proofs.EndpointNameLemmas.{set-changes, freed-changes}
-use Rattle.usb_session_calls.proofs.NameLemmas.{free-none, length-freed, length-set_name}
-use Rattle.usb_session_calls.proofs.Called.{own-open, writer-open, represents-open, represents-freed, represents-set, represents-writer_freed, endpoints_kept, readers_kept, writers_kept, set-kept}
+use Rattle.usb_session_calls.proofs.NameLemmas.{free-none, length-freed, length-set_name, map-freed, map-set}
+use Rattle.usb_session_calls.proofs.Called.{own-open, writer-open, endpoints_kept, readers_kept, writers_kept}
 use Rattle.usb_session.proofs.KeptNames.{kept-at, kept-none, kept-free}
 use Rattle.usb_session.proofs.Replaced.{writer_endpoint}
 use Rattle.usb_session.proofs.Moves.{Moves, sound-moved, is-direction, not-direction, barred-used, barred-direction}
 
--- a writer is open under a name
-represents-made : (s : SessionState) (state : State) (now : HostState) (n : ℕ) (x : Writer) → Represents s state → Represents (record s { host = now; writers = set_name s.writers n x.state }) (record state { host = now; writers = set_name state.writers n x })
-represents-made s state now n x r =
-    represents-open s state now s.endpoints s.readers (set_name s.writers n x.state) state.endpoints state.readers (set_name state.writers n x) r
-    (endpoints_kept s state r) (readers_kept s state r) (set-kept (λ (z : Writer). z.state) state.writers s.writers n x (writers_kept s state r))
+-- a writer is open in place of an endpoint, and an endpoint in place of a writer
+represents-made : (s : SessionState) (state : State) (e w : ℕ) (x : Writer) → Represents s state → Represents (record s { endpoints = freed s.endpoints e; writers = set_name s.writers w x.state }) (record state { endpoints = freed state.endpoints e; writers = set_name state.writers w x })
+represents-made s state e w x is = rw (is, map-freed (λ (z : Endpoint). z.state) state.endpoints e, map-set (λ (z : Writer). z.state) state.writers w x) refl
+
+represents-given_back : (s : SessionState) (state : State) (e w : ℕ) (h : Endpoint) → Represents s state → Represents (record s { endpoints = set_name s.endpoints e h.state; writers = freed s.writers w }) (record state { endpoints = set_name state.endpoints e h; writers = freed state.writers w })
+represents-given_back s state e w h is = rw (is, map-set (λ (z : Endpoint). z.state) state.endpoints e h, map-freed (λ (z : Writer). z.state) state.writers w) refl
 
 -- the endpoint of the name e, and the writer of the name w
 module _ (s : SessionState) (e w : ℕ) where
@@ -72,11 +73,7 @@ module _ (s : SessionState) (e w : ℕ) where
         let same : new.state ≡ y = ap (λ (z : EndpointState). fresh_writer z size) k.same ∙ sym fresh in
         let input : has_direction Out h.state ≡ true = ap (has_direction Out) k.same ∙ is-direction Out x direction in
         rw (k.is, there, input, rest, put, ← same)
-        (record {
-          state = subst (λ (host : HostState). Represents (record s { endpoints = freed s.endpoints e; writers = set_name s.writers w new.state }) (record state { host = host; endpoints = freed state.endpoints e; writers = set_name state.writers w new })) (host_is s state is)
-              (represents-made (record s { endpoints = freed s.endpoints e }) (record state { host = s.host; endpoints = freed state.endpoints e }) s.host w new (represents-freed s state s.host e is));
-          same = refl;
-        })
+        (record { state = represents-made s state e w new is; same = refl })
 
   -- or its name is in use, nothing is open under the endpoint's, or that is not an OUT endpoint
   pub writer-used : (size : ℕ) (state : State) → is_free s.writers w ≡ false → Represents s state → Gives s condition_line (writer_answer state w e size)
@@ -110,11 +107,7 @@ module _ (s : SessionState) (e w : ℕ) where
         let own : is_free state.endpoints e ≡ true = kept-free _ _ _ (endpoints_kept s state is) e ∙ free in
         let seen : k.entry.state.endpoint ≡ x = ap writer_endpoint k.same ∙ sym same in
         rw (k.is, own, put, rest, ← seen)
-        (record {
-          state = subst (λ (host : HostState). Represents (record s { endpoints = set_name s.endpoints e k.entry.state.endpoint; writers = freed s.writers w }) (record state { host = host; endpoints = set_name state.endpoints e (endpoint_of_writer k.entry); writers = freed state.writers w })) (host_is s state is)
-              (represents-set (record s { writers = freed s.writers w }) (record state { host = s.host; writers = freed state.writers w }) s.host e (endpoint_of_writer k.entry) (represents-writer_freed s state s.host w is));
-          same = refl;
-        })
+        (record { state = represents-given_back s state e w (endpoint_of_writer k.entry) is; same = refl })
 
   -- or its name is in use, or no writer is open under that name
   pub inner-used : (state : State) → is_free s.endpoints e ≡ false → Represents s state → Gives s condition_line (writer_inner_answer state e w)
