@@ -1,5 +1,5 @@
 -- Futures that are open under a name: each has its ticket, and its deadline is the ticket's.
-use Rattle.std.proofs.Common.{◌≡◌, ℕ, arith, ◌+◌, true, false, List, [], ◌∷◌, ◌++◌, map, length, Option, Some, None, inl, inr, refl, ap, sym, ◌∙◌, subst, append-nil}
+use Rattle.std.proofs.Common.{◌≡◌, ℕ, arith, ◌+◌, true, false, List, [], ◌∷◌, ◌++◌, map, length, Option, Some, inl, inr, refl, ap, sym, ◌∙◌, subst, append-nil}
 use Rattle.std.proofs.lemmas.Bool.{cases_eq}
 use Rattle.std.proofs.lemmas.Option.{none-some, same_Some}
 use Rattle.usb_kernel.specs.Extends.{Extends}

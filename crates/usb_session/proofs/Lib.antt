@@ -51,7 +51,6 @@ pub mod FramedBehind
 pub mod FramedScripts
 pub mod Moves
 pub mod WriterMoves
-
 pub mod WrittenWriters
 pub mod WrittenLaw
 pub mod PrintedLaw

@@ -2,7 +2,7 @@
 use Rattle.std.proofs.Common.{◌≡◌, ℕ, ◌-◌, Bool, true, false, List, [], ◌++◌, length, take, map, Option, Some, None, Result, Ok, Err, refl, ap, sym, subst, append-nil, append_assoc}
 use Rattle.std.specs.Option.{option_map}
 use Rattle.std.specs.Prelude.{nat_lt}
-use Rattle.std.proofs.lemmas.Bool.{cond_both, and_parts}
+use Rattle.std.proofs.lemmas.Bool.{cond_both}
 use Rattle.usb_device_host.specs.HostState.{HostState}
 use Rattle.usb_device_host.specs.HostCalls.{host_calls}
 use Rattle.usb_device_host.proofs.CountLemmas.{all_discarded-count}
@@ -18,7 +18,7 @@ use Rattle.usb_session_streams.specs.Faults.{io_line, read_fault_line}
 use Rattle.usb_session_streams.specs.Reads.{read_line, buffer_line, is_end_line, consumed_end_line}
 use Rattle.usb_script_words.specs.declared.framing.Framing.{Framing}
 use Rattle.usb_session_text.specs.Calls.{ok_line}
-use Rattle.usb_session_calls.specs.Names.{named, is_free, freed, set_name, change_named}
+use Rattle.usb_session_calls.specs.Names.{named, freed, set_name, change_named}
 use Rattle.usb_session_calls.specs.declared.call.ReaderCall.{ReaderCall}
 use Rattle.usb_session_calls.specs.declared.call.ReaderCall.TheVariants.{Read, PollRead, FillBuf, PollFillBuf, Consume, IsEnd, ConsumeEnd, SetNumTransfers, SetReadTimeout, Cancel}
 use Rattle.usb_session_calls.specs.CalledReaders.{reader_called, on_reader}

@@ -23,7 +23,7 @@ use Rattle.usb_session_calls.specs.declared.call.Call.{Call}
 use Rattle.usb_session_calls.specs.Calls.{call_of}
 use Rattle.usb_session_calls.specs.Names.{named, is_free, freed, set_name}
 use Rattle.usb_session_calls.specs.EndpointNames.{EndpointName, Own, endpoint_under}
-use Rattle.usb_session_calls.specs.State.{State, Endpoint, endpoint_state, pending, tickets_of, with_host}
+use Rattle.usb_session_calls.specs.State.{State, Endpoint, endpoint_state, tickets_of, with_host}
 use Rattle.usb_session_calls.specs.Answer.{Answer}
 use Rattle.usb_session_calls.specs.Polls.{one_taken}
 use Rattle.usb_session_calls.specs.Submits.{with_submission}

@@ -7,20 +7,20 @@ use Rattle.usb_script_words.specs.declared.framing.Framing.TheVariants.{Plain}
 use Rattle.usb_script_lines.specs.declared.item.Item.{Item}
 use Rattle.usb_script_lines.specs.declared.item.Item.TheVariants as item
 use Rattle.usb_session_streams.specs.Handed.{completed_bytes}
-use Rattle.usb_session_calls.specs.State.{State}
-use Rattle.usb_session_calls.specs.ReaderAt.{ReaderAt, reader_at}
+use Rattle.usb_session_calls.specs.Names.{named}
+use Rattle.usb_session_calls.specs.State.{State, Reader}
 use Rattle.usb_session.specs.Output.{start, behind}
 use Rattle.usb_session.proofs.WorkedOutput.{output_on_literals}
 use Rattle.usb_session.proofs.WorkedDevices.{interrupt_bytes}
 
 -- behind the lines of a script: the reader of number 0, the tickets that it took, the bytes of their completions, and those that
 -- are unread
-pub record HaveHandedOver (state : State) (x : ReaderAt) (taken bytes unread : List ℕ) : Type 0 where
-  pub reader : reader_at state 0 ≡ Some x
-  pub tickets : take x.endpoint.taken x.endpoint.tickets ≡ x.reader.before ++ taken
+pub record HaveHandedOver (state : State) (x : Reader) (taken bytes unread : List ℕ) : Type 0 where
+  pub reader : named state.readers 0 ≡ Some x
+  pub tickets : take x.endpoint.taken x.endpoint.tickets ≡ x.before ++ taken
   pub completed : completed_bytes state.host.kernel.past taken ≡ bytes
-  pub handed : x.reader.given ++ unread ≡ bytes
-  pub rest : x.reader.bare.unread ≡ unread
+  pub handed : x.given ++ unread ≡ bytes
+  pub rest : x.bare.unread ≡ unread
 
 -- an interrupt IN endpoint with packets of at most 4 bytes is open
 abbrev pub on_endpoint : List Item → List Item
@@ -30,11 +30,14 @@ abbrev pub behind_all : List Item → State
 behind_all lines = behind (start lines) lines
 
 -- a reader of it, all of whose tickets were taken
-abbrev pub reader_with : ℕ → List ℕ → Bool → List ℕ → List ℕ → List ℕ → ReaderAt
+abbrev pub reader_with : ℕ → List ℕ → Bool → List ℕ → List ℕ → List ℕ → Reader
 reader_with n unread ended before given tickets =
     record {
-      reader = record { bare = record { n = n; size = 8; timeout = 2 ^ 64 - 1; unread = unread; ended = ended; error = None }; before = before; given = given; consumed = None };
       endpoint = record { device = 0; address = 129; kind = Interrupt; maximum = 4; key = 0; tickets = tickets; taken = 2; was_streamed = true };
+      bare = record { n = n; size = 8; timeout = 2 ^ 64 - 1; unread = unread; ended = ended; error = None };
+      before = before;
+      given = given;
+      consumed = None;
     }
 
 -- two bytes of a short packet are read, and the third is lent and taken off; of a transfer that is cancelled with four bytes three

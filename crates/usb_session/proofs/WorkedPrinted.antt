@@ -8,6 +8,7 @@ use Rattle.usb_script_words.specs.declared.control.ControlTarget.TheVariants.{De
 use Rattle.usb_script_words.specs.declared.framing.Framing.TheVariants.{Plain}
 use Rattle.usb_script_lines.specs.declared.item.Item.TheVariants as item
 use Rattle.usb_session_calls.specs.State.{State}
+use Rattle.usb_session_calls.specs.EndpointNames.{Own}
 use Rattle.usb_session.specs.Answers.{answer}
 use Rattle.usb_session.specs.Output.{start, behind}
 use Rattle.usb_session.specs.Served.{taken_under, was_streamed_under, control_tickets, end_given_up}
@@ -37,7 +38,7 @@ polled_last = (codes "wait e0 9 : pkt k0 81 03", item.Wait 0 9 (Packet 0 129 (3 
 abbrev before_last : State
 before_last = behind (start (items (back_again ++ polled_last))) (items back_again)
 
-printed_behind_a_reader : ((answer before_last (item.Wait 0 9 (Packet 0 129 (3 ∷ []) ∷ []))).line ≡ with_end (codes "done ok 1 64 03")) × (taken_under before_last 0 ≡ 2) × (was_streamed_under before_last 0 ≡ true)
+printed_behind_a_reader : ((answer before_last (item.Wait 0 9 (Packet 0 129 (3 ∷ []) ∷ []))).line ≡ with_end (codes "done ok 1 64 03")) × (taken_under before_last (Own 0) ≡ 2) × (was_streamed_under before_last (Own 0) ≡ true)
 unfolding output_on_literals
 printed_behind_a_reader = (refl, refl, refl)
 

@@ -1,7 +1,6 @@
 -- What the calls on writers do.
 use Rattle.std.proofs.Common.{◌≡◌, ℕ, false, List, [], ◌∷◌, length, Option, Some, None, Result, Ok, Err, refl, ap}
 use Rattle.std.specs.Option.{option_map}
-use Rattle.std.proofs.lemmas.Bool.{and_parts}
 use Rattle.usb_device_host.specs.HostState.{HostState}
 use Rattle.usb_device_host.specs.HostCalls.{host_calls}
 use Rattle.usb_io.specs.Writers.{Writing, fresh_writer}
@@ -16,7 +15,7 @@ use Rattle.usb_session_streams.specs.Faults.{io_line, write_fault_line}
 use Rattle.usb_session_streams.specs.Writes.{wrote_line}
 use Rattle.usb_session_streams.specs.Needs.{bars_call, bars_transfers, flush_need, finish_need}
 use Rattle.usb_session_streams.specs.Printed.{written_line, flushed_line, poll_line, submitted_to}
-use Rattle.usb_session_calls.specs.Names.{named, is_free, freed, set_name, change_named}
+use Rattle.usb_session_calls.specs.Names.{named, freed, set_name, change_named}
 use Rattle.usb_session_calls.specs.declared.call.WriterCall.{WriterCall}
 use Rattle.usb_session_calls.specs.declared.call.WriterCall.TheVariants as writers
 use Rattle.usb_session_calls.specs.declared.call.WriterCall.TheVariants.{Write, PollWrite, Submit, SubmitEnd, PollFlush, FlushEnd, PollFlushEnd, SetNumTransfers, SetWriteTimeout}
