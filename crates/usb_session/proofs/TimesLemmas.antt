@@ -8,7 +8,7 @@ use Rattle.std.proofs.lemmas.List.Elements.{All-nil, All-cons}
 use Rattle.usb_device_host.specs.HostState.{HostState}
 use Rattle.usb_device.specs.Futures.{FutureState}
 use Rattle.usb_session_calls.specs.Names.{named, is_free, freed, set_name}
-use Rattle.usb_session_calls.specs.State.{State, Endpoint, Reader, Writer}
+use Rattle.usb_session_calls.specs.State.{State, Endpoint, tickets_at, endpoint_of_reader, endpoint_of_writer}
 use Rattle.usb_session_calls.specs.EndpointNames.{EndpointName, Own, OfReader, OfWriter, endpoint_under}
 use Rattle.usb_session.specs.ControlAnswers.{listed}
 use Rattle.usb_session_calls.proofs.NameLemmas.{place_of, free-none, free-within}
@@ -117,16 +117,13 @@ abbrev pub times_in : {X : Type 0} → (X → List ℕ) → ℕ → Option X →
 times_in its t None = 0
 times_in its t (Some x) = times t (its x)
 
-abbrev pub tickets_in : Endpoint → List ℕ
-tickets_in h = h.tickets
-
 abbrev pub ticket_in : FutureState → List ℕ
 ticket_in f = listed f.ticket
 
 -- of the endpoints that are open, under so many names
 abbrev times_under : ℕ → NameCounts → (EndpointName → Option Endpoint) → ℕ
 times_under t c opened =
-    sum_below (λ e. times_in tickets_in t (opened (Own e))) c.own + sum_below (λ r. times_in tickets_in t (opened (OfReader r))) c.readers + sum_below (λ w. times_in tickets_in t (opened (OfWriter w))) c.writers
+    sum_below (λ e. times_in tickets_at t (opened (Own e))) c.own + sum_below (λ r. times_in tickets_at t (opened (OfReader r))) c.readers + sum_below (λ w. times_in tickets_at t (opened (OfWriter w))) c.writers
 
 abbrev pub times_open : ℕ → State → ℕ
 times_open t state = times_under t (name_counts state) (endpoint_under state)
@@ -153,24 +150,24 @@ named-within xs n x is = slice_get_within xs n (Some x) (place_of xs n x is)
 pub among-names : (state : State) (e : EndpointName) (h : Endpoint) → endpoint_under state e ≡ Some h → IsAmong (name_counts state) e
 among-names state (Own e) h is = named-within state.endpoints e h is
 among-names state (OfReader r) h is =
-    let x = mapped-some (λ (x : Reader). x.endpoint) (named state.readers r) h is in named-within state.readers r x.0 x.1
+    let x = mapped-some endpoint_of_reader (named state.readers r) h is in named-within state.readers r x.0 x.1
 among-names state (OfWriter w) h is =
-    let x = mapped-some (λ (x : Writer). x.endpoint) (named state.writers w) h is in named-within state.writers w x.0 x.1
+    let x = mapped-some endpoint_of_writer (named state.writers w) h is in named-within state.writers w x.0 x.1
 
 -- what is open under one name was changed
 module _ (t : ℕ) (c : NameCounts) (old new : EndpointName → Option Endpoint) where
   kind-same : (e : EndpointName) (o : Option Endpoint) (name : ℕ → EndpointName) (n : ℕ) → Changed old new e o → ((k : ℕ) → name k ≢ e)
-      → sum_below (λ k. times_in tickets_in t (new (name k))) n ≡ sum_below (λ k. times_in tickets_in t (old (name k))) n
+      → sum_below (λ k. times_in tickets_at t (new (name k))) n ≡ sum_below (λ k. times_in tickets_at t (old (name k))) n
   kind-same e o name n changed apart =
-      sum-same (λ k. times_in tickets_in t (old (name k))) (λ k. times_in tickets_in t (new (name k))) n (λ k below. ap (times_in tickets_in t) (changed.others (name k) (apart k)))
+      sum-same (λ k. times_in tickets_at t (old (name k))) (λ k. times_in tickets_at t (new (name k))) n (λ k below. ap (times_in tickets_at t) (changed.others (name k) (apart k)))
 
   kind-change : (k : ℕ) (o : Option Endpoint) (name : ℕ → EndpointName) (n : ℕ) → Changed old new (name k) o → ((j : ℕ) → j ≢ k → name j ≢ name k) → k < n
-      → sum_below (λ j. times_in tickets_in t (new (name j))) n + times_in tickets_in t (old (name k)) ≡ sum_below (λ j. times_in tickets_in t (old (name j))) n + times_in tickets_in t o
+      → sum_below (λ j. times_in tickets_at t (new (name j))) n + times_in tickets_at t (old (name k)) ≡ sum_below (λ j. times_in tickets_at t (old (name j))) n + times_in tickets_at t o
   kind-change k o name n changed differ within =
-      sum-change (λ j. times_in tickets_in t (old (name j))) (λ j. times_in tickets_in t (new (name j))) n k within (λ j apart. ap (times_in tickets_in t) (changed.others (name j) (differ j apart)))
-      ∙ ap (λ p. sum_below (λ j. times_in tickets_in t (old (name j))) n + times_in tickets_in t p) changed.here
+      sum-change (λ j. times_in tickets_at t (old (name j))) (λ j. times_in tickets_at t (new (name j))) n k within (λ j apart. ap (times_in tickets_at t) (changed.others (name j) (differ j apart)))
+      ∙ ap (λ p. sum_below (λ j. times_in tickets_at t (old (name j))) n + times_in tickets_at t p) changed.here
 
-  changed-under : (e : EndpointName) (o : Option Endpoint) → IsAmong c e → Changed old new e o → times_under t c new + times_in tickets_in t (old e) ≡ times_under t c old + times_in tickets_in t o
+  changed-under : (e : EndpointName) (o : Option Endpoint) → IsAmong c e → Changed old new e o → times_under t c new + times_in tickets_at t (old e) ≡ times_under t c old + times_in tickets_at t o
   changed-under (Own e) o within changed =
       let own = kind-change e o Own c.own changed (λ j apart same. apart (cc)) within in
       let readers = kind-same (Own e) o OfReader c.readers changed (λ k same. absurd (cc)) in
@@ -186,40 +183,40 @@ module _ (t : ℕ) (c : NameCounts) (old new : EndpointName → Option Endpoint)
 
 -- by what a state had open there, or has there now
 module _ {old new : State} {host : HostState} {e : EndpointName} {o : Option Endpoint} (t : ℕ) (changes : Changes old new host e o) where
-  open-by : IsAmong (name_counts old) e → times_open t new + times_in tickets_in t (endpoint_under old e) ≡ times_open t old + times_in tickets_in t o
+  open-by : IsAmong (name_counts old) e → times_open t new + times_in tickets_at t (endpoint_under old e) ≡ times_open t old + times_in tickets_at t o
   open-by within =
-      ap (λ c. times_under t c (endpoint_under new) + times_in tickets_in t (endpoint_under old e)) changes.names
+      ap (λ c. times_under t c (endpoint_under new) + times_in tickets_at t (endpoint_under old e)) changes.names
       ∙ changed-under t (name_counts old) (endpoint_under old) (endpoint_under new) e o within changes.endpoints
 
-  pub open-change : (h : Endpoint) → endpoint_under old e ≡ Some h → times_open t new + times t h.tickets ≡ times_open t old + times_in tickets_in t o
-  open-change h was = ap (λ p. times_open t new + times_in tickets_in t p) (sym was) ∙ open-by (among-names old e h was)
+  pub open-change : (h : Endpoint) → endpoint_under old e ≡ Some h → times_open t new + times t (tickets_at h) ≡ times_open t old + times_in tickets_at t o
+  open-change h was = ap (λ p. times_open t new + times_in tickets_at t p) (sym was) ∙ open-by (among-names old e h was)
 
-  pub open-put : (h : Endpoint) → endpoint_under old e ≡ None → o ≡ Some h → times_open t new ≡ times_open t old + times t h.tickets
+  pub open-put : (h : Endpoint) → endpoint_under old e ≡ None → o ≡ Some h → times_open t new ≡ times_open t old + times t (tickets_at h)
   open-put h none some =
       let within = subst (λ c. IsAmong c e) changes.names (among-names new e h (changes.endpoints.here ∙ some)) in
-      let was : times_in tickets_in t (endpoint_under old e) ≡ 0 = ap (times_in tickets_in t) none in
-      let now : times_in tickets_in t o ≡ times t h.tickets = ap (times_in tickets_in t) some in
+      let was : times_in tickets_at t (endpoint_under old e) ≡ 0 = ap (times_in tickets_at t) none in
+      let now : times_in tickets_at t o ≡ times t (tickets_at h) = ap (times_in tickets_at t) some in
       let all = open-by within in omega arith
 
 pub open-same : (t : ℕ) (old new : State) → name_counts new ≡ name_counts old → ((e : EndpointName) → endpoint_under new e ≡ endpoint_under old e) → times_open t new ≡ times_open t old
 open-same t old new names same =
     ap (λ c. times_under t c (endpoint_under new)) names
     ∙ (let c = name_counts old in
-    let kind : (name : ℕ → EndpointName) (n : ℕ) → sum_below (λ k. times_in tickets_in t (endpoint_under new (name k))) n ≡ sum_below (λ k. times_in tickets_in t (endpoint_under old (name k))) n = λ name n.
-    sum-same (λ k. times_in tickets_in t (endpoint_under old (name k))) (λ k. times_in tickets_in t (endpoint_under new (name k))) n (λ k below. ap (times_in tickets_in t) (same (name k))) in
+    let kind : (name : ℕ → EndpointName) (n : ℕ) → sum_below (λ k. times_in tickets_at t (endpoint_under new (name k))) n ≡ sum_below (λ k. times_in tickets_at t (endpoint_under old (name k))) n = λ name n.
+    sum-same (λ k. times_in tickets_at t (endpoint_under old (name k))) (λ k. times_in tickets_at t (endpoint_under new (name k))) n (λ k below. ap (times_in tickets_at t) (same (name k))) in
     let own = kind Own c.own in
     let readers = kind OfReader c.readers in
     let writers = kind OfWriter c.writers in omega arith)
 
 -- what is open under one name, and under two
-one-under : (t : ℕ) (c : NameCounts) (opened : EndpointName → Option Endpoint) (e : EndpointName) → IsAmong c e → times_in tickets_in t (opened e) ≤ times_under t c opened
-one-under t c opened (Own e) within = let most = sum-one (λ k. times_in tickets_in t (opened (Own k))) c.own e within in omega arith
-one-under t c opened (OfReader r) within = let most = sum-one (λ k. times_in tickets_in t (opened (OfReader k))) c.readers r within in omega arith
-one-under t c opened (OfWriter w) within = let most = sum-one (λ k. times_in tickets_in t (opened (OfWriter k))) c.writers w within in omega arith
+one-under : (t : ℕ) (c : NameCounts) (opened : EndpointName → Option Endpoint) (e : EndpointName) → IsAmong c e → times_in tickets_at t (opened e) ≤ times_under t c opened
+one-under t c opened (Own e) within = let most = sum-one (λ k. times_in tickets_at t (opened (Own k))) c.own e within in omega arith
+one-under t c opened (OfReader r) within = let most = sum-one (λ k. times_in tickets_at t (opened (OfReader k))) c.readers r within in omega arith
+one-under t c opened (OfWriter w) within = let most = sum-one (λ k. times_in tickets_at t (opened (OfWriter k))) c.writers w within in omega arith
 
-pub open-one : (t : ℕ) (state : State) (e : EndpointName) (h : Endpoint) → endpoint_under state e ≡ Some h → times t h.tickets ≤ times_open t state
+pub open-one : (t : ℕ) (state : State) (e : EndpointName) (h : Endpoint) → endpoint_under state e ≡ Some h → times t (tickets_at h) ≤ times_open t state
 open-one t state e h is =
-    subst (λ p. times_in tickets_in t p ≤ times_open t state) is (one-under t (name_counts state) (endpoint_under state) e (among-names state e h is))
+    subst (λ p. times_in tickets_at t p ≤ times_open t state) is (one-under t (name_counts state) (endpoint_under state) e (among-names state e h is))
 
 -- all but one name
 abbrev except_by : {d e : EndpointName} → (d ≡ e) ⊎ (d ≢ e) → Option Endpoint → Option Endpoint
@@ -237,23 +234,23 @@ except-other : {d e : EndpointName} (c : (d ≡ e) ⊎ (d ≢ e)) (o : Option En
 except-other (inl same) o apart = absurd (apart same)
 except-other (inr away) o apart = refl
 
-pub open-two : (t : ℕ) (state : State) (d e : EndpointName) (g h : Endpoint) → d ≢ e → endpoint_under state d ≡ Some g → endpoint_under state e ≡ Some h → times t g.tickets + times t h.tickets ≤ times_open t state
+pub open-two : (t : ℕ) (state : State) (d e : EndpointName) (g h : Endpoint) → d ≢ e → endpoint_under state d ≡ Some g → endpoint_under state e ≡ Some h → times t (tickets_at g) + times t (tickets_at h) ≤ times_open t state
 open-two t state d e g h apart first second =
     let c = name_counts state in
     let old = endpoint_under state in
     let rest = except old e in
     let gone : Changed old rest e None = record { here = except-here (cases_name e e) (old e); others = λ n away. except-other (cases_name n e) (old n) away } in
     let change = changed-under t c old rest e None (among-names state e h second) gone in
-    let was : times_in tickets_in t (old e) ≡ times t h.tickets = ap (times_in tickets_in t) second in
+    let was : times_in tickets_at t (old e) ≡ times t (tickets_at h) = ap (times_in tickets_at t) second in
     let most = one-under t c rest d (among-names state d g first) in
-    let there : times_in tickets_in t (rest d) ≡ times t g.tickets = ap (times_in tickets_in t) (except-other (cases_name d e) (old d) apart ∙ first) in omega arith
+    let there : times_in tickets_at t (rest d) ≡ times t (tickets_at g) = ap (times_in tickets_at t) (except-other (cases_name d e) (old d) apart ∙ first) in omega arith
 
 -- names under which nothing is open
 pub open-none : (t : ℕ) (state : State) → ((e : EndpointName) → endpoint_under state e ≡ None) → times_open t state ≡ 0
 open-none t state none =
     let c = name_counts state in
-    let kind : (name : ℕ → EndpointName) (n : ℕ) → sum_below (λ k. times_in tickets_in t (endpoint_under state (name k))) n ≡ 0 = λ name n.
-    sum-none (λ k. times_in tickets_in t (endpoint_under state (name k))) n (λ k. ap (times_in tickets_in t) (none (name k))) in
+    let kind : (name : ℕ → EndpointName) (n : ℕ) → sum_below (λ k. times_in tickets_at t (endpoint_under state (name k))) n ≡ 0 = λ name n.
+    sum-none (λ k. times_in tickets_at t (endpoint_under state (name k))) n (λ k. ap (times_in tickets_at t) (none (name k))) in
     let own = kind Own c.own in
     let readers = kind OfReader c.readers in
     let writers = kind OfWriter c.writers in omega arith
