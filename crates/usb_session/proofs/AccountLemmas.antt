@@ -122,7 +122,8 @@ accounted-submit {state} e b h here changes a =
 
 -- the oldest pending ticket is taken
 front-stays : (pending : List ℕ) (t : ℕ) (ts : List ℕ) (u : ℕ) → pending ≡ t ∷ ts → u ≢ t → Contains pending u → Contains (drop 1 pending) u
-front-stays pending t ts u front apart there = rw front at (rw front (Contains-behind t ts u (λ same. apart (sym same)) (rw front at there)))
+front-stays pending t ts u front apart there =
+    subst (λ us. Contains (drop 1 us) u) (sym front) (Contains-behind t ts u (λ same. apart (sym same)) (subst (λ us. Contains us u) front there))
 
 accounted-take : {state next : State} (e : EndpointName) (t : ℕ) (ts : List ℕ) (h : Endpoint) → endpoint_under state e ≡ Some h → h.state.pending ≡ t ∷ ts → Changes state next (host_taken state.host t) e (Some (front_taken t h)) → Accounted state → Accounted next
 accounted-take {state} e t ts h here front changes a =
