@@ -20,9 +20,8 @@ use Rattle.usb_session_calls.proofs.EndpointNameLemmas.{Changed, change-changes,
 use Rattle.usb_session_calls.specs.State.{State, Endpoint, Reader, Writer, endpoint_of_reader, endpoint_of_writer, tickets_of}
 use Rattle.usb_session_calls.specs.Readers.{taken_by_call}
 use Rattle.usb_session_calls.specs.Answer.{Answer}
-use Rattle.usb_session_calls.specs.Submits.{with_submission}
 use Rattle.usb_session_calls.specs.Polls.{front_taken}
-use Rattle.usb_session.proofs.Does.{Acts, Changes, Does, IsStream, says_done, goes, submits, reads, ends, quiet-aside, own-changes, reader-changes, writer-changes}
+use Rattle.usb_session.proofs.Does.{Acts, Changes, IsStream, says_done, goes, submits, reads, ends, quiet-aside, reader-changes, writer-changes}
 
 -- how many tickets a host has had
 abbrev count_in : HostState → ℕ

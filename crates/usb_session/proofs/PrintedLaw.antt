@@ -12,13 +12,13 @@ use Rattle.usb_session_calls.specs.Answer.{Answer}
 use Rattle.usb_session_calls.specs.Polls.{front_taken}
 use Rattle.usb_session.specs.Futures.{with_future}
 use Rattle.usb_session.specs.Output.{start, behind, final_host}
-use Rattle.usb_session.specs.Served.{ClosedEndpoint, taken_under}
+use Rattle.usb_session.specs.Served.{ClosedEndpoint}
 use Rattle.usb_session.specs.Printed.{TookAndPrinted, ScriptsPrintCompletions}
 use Rattle.usb_session.proofs.Does.{Quiet, Changes, ControlMove, Acts, without_future_of, goes, opens, submits, reads, starts, controls, frees, ends, takes, closes, moves}
 use Rattle.usb_session.proofs.EveryLine.{answer-does}
 use Rattle.usb_session.proofs.PrintLemmas.{transfer-stays, taken-of}
 use Rattle.usb_session.proofs.TakeLemmas.{TakesNone, taken_by, none-quiet, none-same, none-opened, none-submitted, take-extends, not-done}
-use Rattle.usb_session.proofs.HandleLemmas.{inv-of, goes-last}
+use Rattle.usb_session.proofs.HandleLemmas.{goes-last}
 
 -- what was taken before is the same
 took-before : (last : List Event) (old new : State) (a : Answer) → ((d : EndpointName) → TakesNone old new d) → TookAndPrinted last new a → TookAndPrinted last old a

@@ -1,5 +1,5 @@
 -- A session at its beginning.
-use Rattle.std.proofs.Common.{◌≡◌, ℕ, ◌≤◌, arith, List, [], length, map, replicate, Option, Some, None, true, false, refl, ap, sym, ◌∙◌, subst}
+use Rattle.std.proofs.Common.{◌≡◌, ℕ, arith, List, [], map, replicate, Option, Some, None, true, false, refl, ap, sym, ◌∙◌, subst}
 use Rattle.std.specs.Prelude.{max}
 use Rattle.std.specs.Option.{option_map}
 use Rattle.std.proofs.lemmas.List.{length-replicate}

@@ -1,8 +1,7 @@
 -- An answer that takes a ticket prints its completion, and a completion is printed only by one that does.
-use Rattle.std.proofs.Common.{◌≡◌, ◌≢◌, ℕ, ◌≤◌, ◌+◌, suc, zero, arith, Bool, List, [], ◌∷◌, ◌++◌, length, take, Option, Some, None, true, false, refl, ap, sym, ◌∙◌, subst, slice_get, inl, inr}
+use Rattle.std.proofs.Common.{◌≡◌, ◌≢◌, ℕ, Bool, List, [], ◌∷◌, ◌++◌, Option, Some, None, true, false, refl, ap, sym, ◌∙◌, subst, inl, inr}
 use Rattle.std.specs.Option.{option_map_or}
-use Rattle.std.proofs.lemmas.List.{take-append-le}
-use Rattle.std.proofs.lemmas.Option.{none-some, same_Some}
+use Rattle.std.proofs.lemmas.Option.{same_Some}
 use Rattle.usb_xfer.specs.declared.transfer.Completion.{Completion}
 use Rattle.usb_kernel.specs.Extends.{Extends}
 use Rattle.usb_kernel.specs.TransferCompletions.{transfer_completion}
