@@ -107,6 +107,9 @@ none-begun (Some d) h request timeout is = absurd (cc)
 none-host : (h now : HostState) (request : TransferData) (timeout : ℕ) (o : Option ℕ) → None ≡ started_future h request timeout o → now ≡ started_host h request timeout o → now ≡ h
 none-host h now request timeout o none is = is ∙ ap (started_host h request timeout) (none-begun o h request timeout none)
 
+pub none-sound : (s : SessionState) (now : HostState) (request : TransferData) (timeout : ℕ) (o : Option ℕ) → IsSound s → None ≡ started_future s.host request timeout o → now ≡ started_host s.host request timeout o → IsSound (record s { host = now })
+none-sound s now request timeout o sound none is = subst (λ (h : HostState). IsSound (record s { host = h })) (sym (none-host s.host now request timeout o none is)) sound
+
 barred-by : (s : SessionState) (state : State) (n : ℕ) (request : TransferData) (timeout : ℕ) (o : Option ℕ) → Represents s state → ((device : ℕ) → o ≡ Some device → Gives s condition_line (if is_free state.futures n then start_on state n request timeout device else condition_answer state)) → Gives s condition_line (if_open o (λ device. if is_free state.futures n then start_on state n request timeout device else condition_answer state) (condition_answer state))
 barred-by s state n request timeout None r gives = barred-gives s state r
 barred-by s state n request timeout (Some device) r gives = gives device refl

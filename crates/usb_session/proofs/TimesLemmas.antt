@@ -1,5 +1,5 @@
 -- How often a ticket stands in the lists of what is open.
-use Rattle.std.proofs.Common.{ℕ, zero, suc, arith, ◌≡◌, ◌≢◌, ◌<◌, ◌≤◌, ◌+◌, ◌⊎◌, true, List, [], ◌∷◌, ◌++◌, length, get_or, Option, Some, None, inl, inr, refl, sym, ◌∙◌, ap, subst}
+use Rattle.std.proofs.Common.{ℕ, zero, suc, arith, ◌≡◌, ◌≢◌, ◌<◌, ◌≤◌, ◌+◌, true, List, [], ◌∷◌, ◌++◌, length, get_or, Option, Some, None, inl, inr, refl, sym, ◌∙◌, ap, subst}
 use Rattle.std.specs.Prelude.{◌==◌, if◌then◌else◌, count_by, All}
 use Rattle.std.proofs.lemmas.Bool.{cases_eq, eq-eqb, ne_eqb}
 use Rattle.std.proofs.lemmas.Option.{slice_get_within}
@@ -12,9 +12,9 @@ use Rattle.usb_session_calls.specs.State.{State, Endpoint, tickets_at, endpoint_
 use Rattle.usb_session_calls.specs.EndpointNames.{EndpointName, Own, OfReader, OfWriter, endpoint_under}
 use Rattle.usb_session.specs.ControlAnswers.{listed}
 use Rattle.usb_session_calls.proofs.NameLemmas.{place_of, free-none, free-within}
-use Rattle.usb_session_calls.proofs.EndpointNameLemmas.{Changed, ChangedAt, cases_name, set-changes, freed-changes}
+use Rattle.usb_session_calls.proofs.EndpointNameLemmas.{ChangedAt, set-changes, freed-changes}
 use Rattle.usb_session.proofs.PrintLemmas.{mapped-some}
-use Rattle.usb_session.proofs.Does.{NameCounts, name_counts, Changes}
+use Rattle.usb_session.proofs.Does.{NameCounts, name_counts, Changes, own-changes, reader-changes, writer-changes}
 
 abbrev pub one : ℕ → ℕ → ℕ
 one t u = if u == t then 1 else 0
@@ -120,10 +120,13 @@ times_in its t (Some x) = times t (its x)
 abbrev pub ticket_in : FutureState → List ℕ
 ticket_in f = listed f.ticket
 
--- of the endpoints that are open, under so many names
+-- of the endpoints that are open under the first names of a kind
+abbrev of_kind : ℕ → (EndpointName → Option Endpoint) → (ℕ → EndpointName) → ℕ → ℕ
+of_kind t opened name n = sum_below (λ k. times_in tickets_at t (opened (name k))) n
+
+-- and under so many names of each kind
 abbrev times_under : ℕ → NameCounts → (EndpointName → Option Endpoint) → ℕ
-times_under t c opened =
-    sum_below (λ e. times_in tickets_at t (opened (Own e))) c.own + sum_below (λ r. times_in tickets_at t (opened (OfReader r))) c.readers + sum_below (λ w. times_in tickets_at t (opened (OfWriter w))) c.writers
+times_under t c opened = of_kind t opened Own c.own + of_kind t opened OfReader c.readers + of_kind t opened OfWriter c.writers
 
 abbrev pub times_open : ℕ → State → ℕ
 times_open t state = times_under t (name_counts state) (endpoint_under state)
@@ -154,39 +157,43 @@ among-names state (OfReader r) h is =
 among-names state (OfWriter w) h is =
     let x = mapped-some endpoint_of_writer (named state.writers w) h is in named-within state.writers w x.0 x.1
 
--- what is open under one name was changed
-module _ (t : ℕ) (c : NameCounts) (old new : EndpointName → Option Endpoint) where
-  kind-same : (e : EndpointName) (o : Option Endpoint) (name : ℕ → EndpointName) (n : ℕ) → Changed old new e o → ((k : ℕ) → name k ≢ e)
-      → sum_below (λ k. times_in tickets_at t (new (name k))) n ≡ sum_below (λ k. times_in tickets_at t (old (name k))) n
-  kind-same e o name n changed apart =
-      sum-same (λ k. times_in tickets_at t (old (name k))) (λ k. times_in tickets_at t (new (name k))) n (λ k below. ap (times_in tickets_at t) (changed.others (name k) (apart k)))
+-- where what is open was changed under one name, or under none
+module _ (t : ℕ) (old new : EndpointName → Option Endpoint) where
+  kind-same : (name : ℕ → EndpointName) (n : ℕ) → ((k : ℕ) → new (name k) ≡ old (name k)) → of_kind t new name n ≡ of_kind t old name n
+  kind-same name n same =
+      sum-same (λ k. times_in tickets_at t (old (name k))) (λ k. times_in tickets_at t (new (name k))) n (λ k below. ap (times_in tickets_at t) (same k))
 
-  kind-change : (k : ℕ) (o : Option Endpoint) (name : ℕ → EndpointName) (n : ℕ) → Changed old new (name k) o → ((j : ℕ) → j ≢ k → name j ≢ name k) → k < n
-      → sum_below (λ j. times_in tickets_at t (new (name j))) n + times_in tickets_at t (old (name k)) ≡ sum_below (λ j. times_in tickets_at t (old (name j))) n + times_in tickets_at t o
-  kind-change k o name n changed differ within =
-      sum-change (λ j. times_in tickets_at t (old (name j))) (λ j. times_in tickets_at t (new (name j))) n k within (λ j apart. ap (times_in tickets_at t) (changed.others (name j) (differ j apart)))
-      ∙ ap (λ p. sum_below (λ j. times_in tickets_at t (old (name j))) n + times_in tickets_at t p) changed.here
+  kind-change : (name : ℕ → EndpointName) (n k : ℕ) → k < n → ((j : ℕ) → j ≢ k → new (name j) ≡ old (name j)) → of_kind t new name n + times_in tickets_at t (old (name k)) ≡ of_kind t old name n + times_in tickets_at t (new (name k))
+  kind-change name n k within others =
+      sum-change (λ j. times_in tickets_at t (old (name j))) (λ j. times_in tickets_at t (new (name j))) n k within (λ j apart. ap (times_in tickets_at t) (others j apart))
 
-  changed-under : (e : EndpointName) (o : Option Endpoint) → IsAmong c e → Changed old new e o → times_under t c new + times_in tickets_at t (old e) ≡ times_under t c old + times_in tickets_at t o
-  changed-under (Own e) o within changed =
-      let own = kind-change e o Own c.own changed (λ j apart same. apart (cc)) within in
-      let readers = kind-same (Own e) o OfReader c.readers changed (λ k same. absurd (cc)) in
-      let writers = kind-same (Own e) o OfWriter c.writers changed (λ k same. absurd (cc)) in omega arith
-  changed-under (OfReader r) o within changed =
-      let own = kind-same (OfReader r) o Own c.own changed (λ k same. absurd (cc)) in
-      let readers = kind-change r o OfReader c.readers changed (λ j apart same. apart (cc)) within in
-      let writers = kind-same (OfReader r) o OfWriter c.writers changed (λ k same. absurd (cc)) in omega arith
-  changed-under (OfWriter w) o within changed =
-      let own = kind-same (OfWriter w) o Own c.own changed (λ k same. absurd (cc)) in
-      let readers = kind-same (OfWriter w) o OfReader c.readers changed (λ k same. absurd (cc)) in
-      let writers = kind-change w o OfWriter c.writers changed (λ j apart same. apart (cc)) within in omega arith
+  same-under : (c : NameCounts) → ((e : EndpointName) → new e ≡ old e) → times_under t c new ≡ times_under t c old
+  same-under c same =
+      let own = kind-same Own c.own (λ k. same (Own k)) in
+      let readers = kind-same OfReader c.readers (λ k. same (OfReader k)) in
+      let writers = kind-same OfWriter c.writers (λ k. same (OfWriter k)) in omega arith
+
+  changed-under : (c : NameCounts) (e : EndpointName) → IsAmong c e → ((d : EndpointName) → d ≢ e → new d ≡ old d) → times_under t c new + times_in tickets_at t (old e) ≡ times_under t c old + times_in tickets_at t (new e)
+  changed-under c (Own e) within others =
+      let own = kind-change Own c.own e within (λ k apart. others (Own k) (λ same. apart (cc))) in
+      let readers = kind-same OfReader c.readers (λ k. others (OfReader k) (λ same. absurd (cc))) in
+      let writers = kind-same OfWriter c.writers (λ k. others (OfWriter k) (λ same. absurd (cc))) in omega arith
+  changed-under c (OfReader r) within others =
+      let own = kind-same Own c.own (λ k. others (Own k) (λ same. absurd (cc))) in
+      let readers = kind-change OfReader c.readers r within (λ k apart. others (OfReader k) (λ same. apart (cc))) in
+      let writers = kind-same OfWriter c.writers (λ k. others (OfWriter k) (λ same. absurd (cc))) in omega arith
+  changed-under c (OfWriter w) within others =
+      let own = kind-same Own c.own (λ k. others (Own k) (λ same. absurd (cc))) in
+      let readers = kind-same OfReader c.readers (λ k. others (OfReader k) (λ same. absurd (cc))) in
+      let writers = kind-change OfWriter c.writers w within (λ k apart. others (OfWriter k) (λ same. apart (cc))) in omega arith
 
 -- by what a state had open there, or has there now
 module _ {old new : State} {host : HostState} {e : EndpointName} {o : Option Endpoint} (t : ℕ) (changes : Changes old new host e o) where
   open-by : IsAmong (name_counts old) e → times_open t new + times_in tickets_at t (endpoint_under old e) ≡ times_open t old + times_in tickets_at t o
   open-by within =
       ap (λ c. times_under t c (endpoint_under new) + times_in tickets_at t (endpoint_under old e)) changes.names
-      ∙ changed-under t (name_counts old) (endpoint_under old) (endpoint_under new) e o within changes.endpoints
+      ∙ changed-under t (endpoint_under old) (endpoint_under new) (name_counts old) e within changes.endpoints.others
+      ∙ ap (λ p. times_open t old + times_in tickets_at t p) changes.endpoints.here
 
   pub open-change : (h : Endpoint) → endpoint_under old e ≡ Some h → times_open t new + times t (tickets_at h) ≡ times_open t old + times_in tickets_at t o
   open-change h was = ap (λ p. times_open t new + times_in tickets_at t p) (sym was) ∙ open-by (among-names old e h was)
@@ -199,14 +206,7 @@ module _ {old new : State} {host : HostState} {e : EndpointName} {o : Option End
       let all = open-by within in omega arith
 
 pub open-same : (t : ℕ) (old new : State) → name_counts new ≡ name_counts old → ((e : EndpointName) → endpoint_under new e ≡ endpoint_under old e) → times_open t new ≡ times_open t old
-open-same t old new names same =
-    ap (λ c. times_under t c (endpoint_under new)) names
-    ∙ (let c = name_counts old in
-    let kind : (name : ℕ → EndpointName) (n : ℕ) → sum_below (λ k. times_in tickets_at t (endpoint_under new (name k))) n ≡ sum_below (λ k. times_in tickets_at t (endpoint_under old (name k))) n = λ name n.
-    sum-same (λ k. times_in tickets_at t (endpoint_under old (name k))) (λ k. times_in tickets_at t (endpoint_under new (name k))) n (λ k below. ap (times_in tickets_at t) (same (name k))) in
-    let own = kind Own c.own in
-    let readers = kind OfReader c.readers in
-    let writers = kind OfWriter c.writers in omega arith)
+open-same t old new names same = ap (λ c. times_under t c (endpoint_under new)) names ∙ same-under t (endpoint_under old) (endpoint_under new) (name_counts old) same
 
 -- what is open under one name, and under two
 one-under : (t : ℕ) (c : NameCounts) (opened : EndpointName → Option Endpoint) (e : EndpointName) → IsAmong c e → times_in tickets_at t (opened e) ≤ times_under t c opened
@@ -218,42 +218,30 @@ pub open-one : (t : ℕ) (state : State) (e : EndpointName) (h : Endpoint) → e
 open-one t state e h is =
     subst (λ p. times_in tickets_at t p ≤ times_open t state) is (one-under t (name_counts state) (endpoint_under state) e (among-names state e h is))
 
--- all but one name
-abbrev except_by : {d e : EndpointName} → (d ≡ e) ⊎ (d ≢ e) → Option Endpoint → Option Endpoint
-except_by (inl same) o = None
-except_by (inr apart) o = o
+-- nothing is open under a name any more
+emptied : State → EndpointName → State
+emptied state (Own e) = record state { endpoints = freed state.endpoints e }
+emptied state (OfReader r) = record state { readers = freed state.readers r }
+emptied state (OfWriter w) = record state { writers = freed state.writers w }
 
-abbrev except : (EndpointName → Option Endpoint) → EndpointName → EndpointName → Option Endpoint
-except opened e d = except_by (cases_name d e) (opened d)
-
-except-here : {e : EndpointName} (c : (e ≡ e) ⊎ (e ≢ e)) (o : Option Endpoint) → except_by c o ≡ None
-except-here (inl same) o = refl
-except-here (inr apart) o = absurd (apart refl)
-
-except-other : {d e : EndpointName} (c : (d ≡ e) ⊎ (d ≢ e)) (o : Option Endpoint) → d ≢ e → except_by c o ≡ o
-except-other (inl same) o apart = absurd (apart same)
-except-other (inr away) o apart = refl
+emptied-changes : (state : State) (e : EndpointName) → Changes state (emptied state e) state.host e None
+unfolding emptied
+emptied-changes state (Own e) = own-changes state state.host (freed state.endpoints e) e None (freed-changes state.endpoints e)
+emptied-changes state (OfReader r) = reader-changes state state.host (freed state.readers r) r None (freed-changes state.readers r)
+emptied-changes state (OfWriter w) = writer-changes state state.host (freed state.writers w) w None (freed-changes state.writers w)
 
 pub open-two : (t : ℕ) (state : State) (d e : EndpointName) (g h : Endpoint) → d ≢ e → endpoint_under state d ≡ Some g → endpoint_under state e ≡ Some h → times t (tickets_at g) + times t (tickets_at h) ≤ times_open t state
 open-two t state d e g h apart first second =
-    let c = name_counts state in
-    let old = endpoint_under state in
-    let rest = except old e in
-    let gone : Changed old rest e None = record { here = except-here (cases_name e e) (old e); others = λ n away. except-other (cases_name n e) (old n) away } in
-    let change = changed-under t c old rest e None (among-names state e h second) gone in
-    let was : times_in tickets_at t (old e) ≡ times t (tickets_at h) = ap (times_in tickets_at t) second in
-    let most = one-under t c rest d (among-names state d g first) in
-    let there : times_in tickets_at t (rest d) ≡ times t (tickets_at g) = ap (times_in tickets_at t) (except-other (cases_name d e) (old d) apart ∙ first) in omega arith
+    let gone = emptied-changes state e in
+    let change = open-change t gone h second in
+    let most = open-one t (emptied state e) d g (gone.endpoints.others d apart ∙ first) in omega arith
 
 -- names under which nothing is open
 pub open-none : (t : ℕ) (state : State) → ((e : EndpointName) → endpoint_under state e ≡ None) → times_open t state ≡ 0
 open-none t state none =
     let c = name_counts state in
-    let kind : (name : ℕ → EndpointName) (n : ℕ) → sum_below (λ k. times_in tickets_at t (endpoint_under state (name k))) n ≡ 0 = λ name n.
-    sum-none (λ k. times_in tickets_at t (endpoint_under state (name k))) n (λ k. ap (times_in tickets_at t) (none (name k))) in
-    let own = kind Own c.own in
-    let readers = kind OfReader c.readers in
-    let writers = kind OfWriter c.writers in omega arith
+    let kind : (name : ℕ → EndpointName) (n : ℕ) → of_kind t (endpoint_under state) name n ≡ 0 = λ name n. sum-none (λ k. times_in tickets_at t (endpoint_under state (name k))) n (λ k. ap (times_in tickets_at t) (none (name k))) in
+    omega (arith, kind Own c.own, kind OfReader c.readers, kind OfWriter c.writers)
 
 -- so with futures
 awaited-by : (t : ℕ) (fs after : List (Option FutureState)) (n : ℕ) (o : Option FutureState) → ChangedAt fs after n o → n < length fs → times_awaited t after + times_in ticket_in t (named fs n) ≡ times_awaited t fs + times_in ticket_in t o

@@ -1,5 +1,5 @@
 -- Calls on one endpoint of a session: what they keep.
-use Rattle.std.proofs.Common.{◌≡◌, ◌≢◌, ℕ, ◌<◌, ◌≤◌, List, [], length, map, Option, Some, None, true, false, refl, ap, sym, ◌∙◌, subst, inl, inr}
+use Rattle.std.proofs.Common.{◌≡◌, ◌≢◌, ℕ, ◌<◌, List, [], length, map, Option, Some, None, false, refl, ap, sym, ◌∙◌, subst, inl, inr}
 use Rattle.std.specs.Option.{option_map}
 use Rattle.std.proofs.lemmas.Bool.{cases_eq}
 use Rattle.std.proofs.lemmas.Option.{none-some, same_Some}
@@ -15,15 +15,15 @@ use Rattle.usb_device_ledger.proofs.DeviceLemmas.{KeepsCounts, counts-there, ope
 use Rattle.usb_device.proofs.DeviceLemmas.{counts-stands}
 use Rattle.usb_device.proofs.HeldDevices.{held-goes}
 use Rattle.usb_device.proofs.StandLemmas.{StandsInterface-same}
-use Rattle.usb_session_calls.specs.Names.{named, is_free, change_named, freed, set_name}
+use Rattle.usb_session_calls.specs.Names.{named, change_named, freed, set_name}
 use Rattle.usb_io.specs.Readers.{ReaderState}
 use Rattle.usb_io.specs.Writers.{WriterState}
 use Rattle.usb_session_calls.specs.EndpointNames.{EndpointName, Own, OfReader, OfWriter, endpoint_under}
 use Rattle.usb_session_calls.specs.State.{State, Endpoint, Reader, Writer}
 use Rattle.usb_session_calls.specs.SessionState.{SessionState, IsSound, open_under}
-use Rattle.usb_session_calls.specs.Relation.{Represents, session_of}
+use Rattle.usb_session_calls.specs.Relation.{Represents}
 use Rattle.usb_session_calls.proofs.Answering.{under_kept}
-use Rattle.usb_session_calls.proofs.EndpointNameLemmas.{Changed, ChangedAt, changed-back, changed-gone, own-changed, reader-changed, writer-changed, set-changes, change-changes, freed-changes}
+use Rattle.usb_session_calls.proofs.EndpointNameLemmas.{Changed, ChangedAt, changed-back, changed-gone, own-changed, reader-changed, writer-changed}
 use Rattle.usb_session_calls.proofs.CountedNames.{counted-goes}
 use Rattle.usb_session_calls.proofs.CountedDevices.{devices-kept}
 use Rattle.usb_session_calls.proofs.NamedKeys.{OpensNone, named-goes, named-put, named-closed}

@@ -171,7 +171,4 @@ sound-set s now k setting c sound at is =
 
 -- a state with another host and other names of interfaces
 pub represents-handled : (s : SessionState) (state : State) (now host : HostState) (after names : List (Option InterfaceState)) → Represents s state → now ≡ host → after ≡ names → Represents (record s { host = now; interfaces = after }) (record state { host = host; interfaces = names })
-represents-handled s state now host after names r is put =
-    ap (λ (h : HostState). record s { host = h; interfaces = after }) is
-    ∙ ap (λ (l : List (Option InterfaceState)). record s { host = host; interfaces = l }) put
-    ∙ ap (λ (v : SessionState). record v { host = host; interfaces = names }) r
+represents-handled s state now host after names r is put = rw (is, put, r) refl

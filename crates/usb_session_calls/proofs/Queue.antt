@@ -15,13 +15,11 @@ use Rattle.usb_device_host.specs.TicketEnds.{host_taken}
 use Rattle.usb_device_host.proofs.CallFrames.{keeps-open, keeps-taken}
 use Rattle.usb_device_host.proofs.WaitFrames.{line-keeps}
 use Rattle.usb_device_host.proofs.FollowLemmas.{taken-past}
-use Rattle.usb_session_calls.specs.Names.{named, change_named}
+use Rattle.usb_session_calls.specs.Names.{change_named}
 use Rattle.usb_session_calls.specs.State.{State, Endpoint, with_host}
 use Rattle.usb_session_calls.specs.Answer.{Answer, answer_with}
 use Rattle.usb_session_calls.specs.Answered.{Answered}
 use Rattle.usb_session_calls.specs.Polls.{took, front_taken}
-use Rattle.usb_session_calls.specs.SessionState.{SessionState}
-use Rattle.usb_session_calls.specs.Relation.{Represents}
 use Rattle.usb_session_calls.specs.OpenCalls.{CallAnswers, with_called}
 use Rattle.usb_session_calls.proofs.Answering.{host_is, told-answered}
 use Rattle.usb_session_calls.proofs.NameLemmas.{change_named-none}

@@ -6,7 +6,7 @@ use Rattle.usb_session.specs.SessionFacts.{made_of}
 use Rattle.usb_session_calls.specs.TargetCalls.{number_of_target, started_host, started_future}
 use Rattle.usb_session_calls.proofs.Answering.{answers, answers-same}
 use Rattle.usb_session_calls.proofs.ControlCode.{number-shown}
-use Rattle.usb_session.proofs.FutureCalls.{start-sound, start-spare, start-gives, start-none, start-used, start-bars}
+use Rattle.usb_session.proofs.FutureCalls.{start-sound, start-spare, start-gives, start-none, none-sound, start-used, start-bars}
 use Rattle.usb_session_calls.proofs.NameLemmas.{free_at}
 use Rattle.usb_session.proofs.session.Session.start_control_out.Goals as goal
 
@@ -19,6 +19,12 @@ pub returns-then-not-is_free-clause-answered : goal.returns-then-not-is_free-cla
 returns-then-not-is_free-clause-answered c =
     answers-same _ _ _ c.self.view_is c.write_condition-then-not-is_free.ensures.text
     (λ state r. start-used (made_of c.self.inside) state c.args.name (request_with c.args.setup c.args.bytes) c.args.timeout c.args.target r (free_at _ _ _ _ _ _ c.deref.ensures.value c.number.ensures.value c.is_free.ensures.free c.if-not-is_free.true))
+
+pub invariant_of-self-in_default : goal.invariant_of-self-in_default
+invariant_of-self-in_default c =
+    none-sound (made_of c.self.inside) c.start_out_open.new.host (request_with c.args.setup c.args.bytes) c.args.timeout (number_of_target c.self.inside.host c.deref-2.result.now c.deref-3.result.now c.args.target) c.self.invariant
+    (sym c.in_default.is ∙ c.in_ok-future.ensures.future ∙ ap (λ b. started_future c.self.inside.host (request_with c.args.setup b) c.args.timeout (number_of_target c.self.inside.host c.deref-2.result.now c.deref-3.result.now c.args.target)) c.as_slice.ensures.value)
+    (c.in_ok-future.ensures.ok ∙ ap (λ b. started_host c.self.inside.host (request_with c.args.setup b) c.args.timeout (number_of_target c.self.inside.host c.deref-2.result.now c.deref-3.result.now c.args.target)) c.as_slice.ensures.value)
 
 pub returns-in_default-clause-answered : goal.returns-in_default-clause-answered
 returns-in_default-clause-answered c =
