@@ -28,12 +28,9 @@ claim-by state host now after i number f (Ok key) r tried numbered is put =
     let handle : ℕ → ℕ → InterfaceState = λ k n. record { key = k; number = n } in
     let same : f ≡ handle key number = ap (λ (k : ℕ). handle k f.number) next ∙ ap (handle key) numbered in
     record {
-      state = record {
-        is =
-            ap (λ (g : HostState). record (session_of state) { host = g; interfaces = after }) is
-            ∙ ap (λ (l : List (Option InterfaceState)). record (session_of state) { host = host; interfaces = l }) (put ∙ ap (set_name state.interfaces i) same);
-        few = r.few;
-      };
+      state =
+          ap (λ (g : HostState). record (session_of state) { host = g; interfaces = after }) is
+          ∙ ap (λ (l : List (Option InterfaceState)). record (session_of state) { host = host; interfaces = l }) (put ∙ ap (set_name state.interfaces i) same);
       same = refl;
     }
 
@@ -47,7 +44,7 @@ claim-of state now after d i key number reattach o f r at there free tried numbe
 
 pub claim-gives : (s : SessionState) (state : State) (now : HostState) (after : List (Option InterfaceState)) (d i key number : ℕ) (reattach : Bool) (o : OpenDevice) (f : InterfaceState) → Represents s state → ClaimGives state d i key number reattach o f now after s
 claim-gives s state now after d i key number reattach o f r =
-    subst (ClaimGives state d i key number reattach o f now after) (sym r.is) (claim-of state now after d i key number reattach o f (record { is = refl; few = r.few }))
+    subst (ClaimGives state d i key number reattach o f now after) (sym r) (claim-of state now after d i key number reattach o f refl)
 
 -- or that in which it is refused
 refused-by : (state : State) (host now : HostState) (i number : ℕ) (error : ErrorState) (t : Result ℕ ErrorState) → Represents (session_of state) state → t ≡ Err error → now ≡ host → Gives (record (session_of state) { host = now }) (error_line error) (claimed_as (with_host state host) number i t)
@@ -68,7 +65,7 @@ refused-of state now d i key number reattach o error r at there free tried is =
 
 pub claim-refused : (s : SessionState) (state : State) (now : HostState) (d i key number : ℕ) (reattach : Bool) (o : OpenDevice) (error : ErrorState) → Represents s state → ClaimRefused state d i key number reattach o error now s
 claim-refused s state now d i key number reattach o error r =
-    subst (ClaimRefused state d i key number reattach o error now) (sym r.is) (refused-of state now d i key number reattach o error (record { is = refl; few = r.few }))
+    subst (ClaimRefused state d i key number reattach o error now) (sym r) (refused-of state now d i key number reattach o error refl)
 
 -- or that in which it is barred
 pub claim-none : (s : SessionState) (state : State) (d number i : ℕ) (reattach : Bool) → named s.devices d ≡ None → Represents s state → Gives s condition_line (claim_answer state d number i reattach)
@@ -78,7 +75,7 @@ claim-none s state d number i reattach none r = rw (device-none s state d r none
 pub claim-used : (s : SessionState) (state : State) (d key number i : ℕ) (reattach : Bool) (o : OpenDevice) → named s.devices d ≡ Some key → value_at s.host.devices key ≡ Some o → is_free s.interfaces i ≡ false → Represents s state → Gives s condition_line (claim_answer state d number i reattach)
 unfolding claim_answer
 claim-used s state d key number i reattach o at there used r =
-    let here : is_free state.interfaces i ≡ false = ap (λ (v : SessionState). is_free v.interfaces i) (sym r.is) ∙ used in
+    let here : is_free state.interfaces i ≡ false = ap (λ (v : SessionState). is_free v.interfaces i) (sym r) ∙ used in
     rw (device-some s state d key o r at there, here) (barred-gives s state r)
 
 pub claim-spare : {A : Type 0} (h now : HostState) (key number : ℕ) (reattach : Bool) (r : Result A (Fail ErrorState)) → Leaves r now (host_claimed h key number reattach) h → now.kernel.spare ≡ h.kernel.spare

@@ -1,5 +1,5 @@
 -- An endpoint is taken out of its name and closed, or a reader or a writer with its endpoint.
-use Rattle.std.proofs.Common.{◌≡◌, ℕ, arith, List, [], ◌∷◌, ◌+◌, ◌++◌, length, map, length-append, Option, Some, None, Bool, true, false, refl, ap, sym, ◌∙◌, subst}
+use Rattle.std.proofs.Common.{◌≡◌, ℕ, arith, List, [], ◌∷◌, ◌+◌, ◌++◌, length, length-append, Option, Some, None, Bool, true, false, refl, ap, sym, ◌∙◌, subst}
 use Rattle.std.specs.Prelude.{◌==◌}
 use Rattle.std.specs.Option.{option_map}
 use Rattle.std.proofs.lemmas.Bool.{cond_both, eq-eqb}
@@ -22,7 +22,7 @@ use Rattle.usb_io.specs.Readers.{ReaderState}
 use Rattle.usb_io.specs.Writers.{WriterState}
 use Rattle.usb_session_calls.specs.Names.{named, freed}
 use Rattle.usb_session_calls.specs.EndpointNames.{EndpointName, Own, OfReader, OfWriter}
-use Rattle.usb_session_calls.specs.State.{State, endpoint_state, state_of_reader, state_of_writer}
+use Rattle.usb_session_calls.specs.State.{State}
 use Rattle.usb_session_calls.specs.Closes.{closed}
 use Rattle.usb_session_calls.specs.Readers.{reader_closed}
 use Rattle.usb_session_calls.specs.Writers.{writer_closed}
@@ -114,8 +114,8 @@ module _ (s S : SessionState) (now : HostState) (n : ℕ) (sound : IsSound s) (v
     unfolding closed
     closed-represents x was bus state r =
         let here = subst (λ v. Represents v state) (sym view) r in
-        let k = kept-at endpoint_state state.endpoints s.endpoints (endpoints_kept s state here) n x was in
-        let host = closed-host s state now (endpoint_state k.entry) x here k.same bus in
+        let k = kept-at _ _ _ (endpoints_kept s state here) n x was in
+        let host = closed-host s state now k.entry.state x here k.same bus in
         rw (k.is, rest)
         (subst (λ (g : HostState). Represents (record s { host = now; endpoints = freed s.endpoints n }) (record state { host = g; endpoints = freed state.endpoints n })) host
         (represents-freed s state now n here))
@@ -124,7 +124,7 @@ module _ (s S : SessionState) (now : HostState) (n : ℕ) (sound : IsSound s) (v
     unfolding closed
     none-closed_represents none state r =
         let here = subst (λ v. Represents v state) (sym view) r in
-        rw (kept-none endpoint_state state.endpoints s.endpoints (endpoints_kept s state here) n none, rest, freed-none s.endpoints n none) here
+        rw (kept-none _ _ _ (endpoints_kept s state here) n none, rest, freed-none s.endpoints n none) here
 
   -- a reader, with its endpoint
   module _ (mid : List (Option ReaderState)) (rest : mid ≡ freed s.readers n) where
@@ -136,8 +136,8 @@ module _ (s S : SessionState) (now : HostState) (n : ℕ) (sound : IsSound s) (v
     unfolding reader_closed
     reader-represents x was bus state r =
         let here = subst (λ v. Represents v state) (sym view) r in
-        let k = kept-at state_of_reader state.readers s.readers (readers_kept s state here) n x was in
-        let host = closed-host s state now (endpoint_state k.entry.endpoint) x.endpoint here (ap reader_endpoint k.same) bus in
+        let k = kept-at _ _ _ (readers_kept s state here) n x was in
+        let host = closed-host s state now k.entry.state.endpoint x.endpoint here (ap reader_endpoint k.same) bus in
         rw (k.is, rest)
         (subst (λ (g : HostState). Represents (record s { host = now; readers = freed s.readers n }) (record state { host = g; readers = freed state.readers n })) host
         (represents-reader_freed s state now n here))
@@ -146,7 +146,7 @@ module _ (s S : SessionState) (now : HostState) (n : ℕ) (sound : IsSound s) (v
     unfolding reader_closed
     none-reader_represents none state r =
         let here = subst (λ v. Represents v state) (sym view) r in
-        rw (kept-none state_of_reader state.readers s.readers (readers_kept s state here) n none, rest, freed-none s.readers n none) here
+        rw (kept-none _ _ _ (readers_kept s state here) n none, rest, freed-none s.readers n none) here
 
   -- a writer, with its endpoint
   module _ (mid : List (Option WriterState)) (rest : mid ≡ freed s.writers n) where
@@ -158,8 +158,8 @@ module _ (s S : SessionState) (now : HostState) (n : ℕ) (sound : IsSound s) (v
     unfolding writer_closed
     writer-represents x was bus state r =
         let here = subst (λ v. Represents v state) (sym view) r in
-        let k = kept-at state_of_writer state.writers s.writers (writers_kept s state here) n x was in
-        let host = closed-host s state now (endpoint_state k.entry.endpoint) x.endpoint here (ap writer_endpoint k.same) bus in
+        let k = kept-at _ _ _ (writers_kept s state here) n x was in
+        let host = closed-host s state now k.entry.state.endpoint x.endpoint here (ap writer_endpoint k.same) bus in
         rw (k.is, rest)
         (subst (λ (g : HostState). Represents (record s { host = now; writers = freed s.writers n }) (record state { host = g; writers = freed state.writers n })) host
         (represents-writer_freed s state now n here))
@@ -168,4 +168,4 @@ module _ (s S : SessionState) (now : HostState) (n : ℕ) (sound : IsSound s) (v
     unfolding writer_closed
     none-writer_represents none state r =
         let here = subst (λ v. Represents v state) (sym view) r in
-        rw (kept-none state_of_writer state.writers s.writers (writers_kept s state here) n none, rest, freed-none s.writers n none) here
+        rw (kept-none _ _ _ (writers_kept s state here) n none, rest, freed-none s.writers n none) here

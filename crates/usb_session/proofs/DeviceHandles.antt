@@ -23,7 +23,7 @@ use Rattle.usb_session_calls.proofs.SoundDevices.{sound-device}
 
 -- what a session has open under a name is open in the state
 device_is : (s : SessionState) (state : State) (d : ℕ) (o : Option ℕ) → Represents s state → named s.devices d ≡ o → named state.devices d ≡ o
-device_is s state d o r at = ap (λ (v : SessionState). named v.devices d) (sym r.is) ∙ at
+device_is s state d o r at = ap (λ (v : SessionState). named v.devices d) (sym r) ∙ at
 
 -- one more handle is open
 cloned-here : (s : SessionState) (after : List (Option ℕ)) (n d key : ℕ) → IsSound s → named s.devices d ≡ Some key → is_free s.devices n ≡ true → after ≡ set_name s.devices n key → IsSound (record s { host = device_cloned s.host key; devices = after })
@@ -74,13 +74,9 @@ sound-device_closed s now after d key sound at rest is =
 
 represents-devices : (s : SessionState) (state : State) (now host : HostState) (after names : List (Option ℕ)) → Represents s state → now ≡ host → after ≡ names → Represents (record s { host = now; devices = after }) (record state { host = host; devices = names })
 represents-devices s state now host after names r is put =
-    record {
-      is =
-          ap (λ (h : HostState). record s { host = h; devices = after }) is
-          ∙ ap (λ (l : List (Option ℕ)). record s { host = host; devices = l }) put
-          ∙ ap (λ (v : SessionState). record v { host = host; devices = names }) r.is;
-      few = r.few;
-    }
+    ap (λ (h : HostState). record s { host = h; devices = after }) is
+    ∙ ap (λ (l : List (Option ℕ)). record s { host = host; devices = l }) put
+    ∙ ap (λ (v : SessionState). record v { host = host; devices = names }) r
 
 pub clone_device-none : (s : SessionState) (state : State) (n d : ℕ) → named s.devices d ≡ None → Represents s state → Gives s condition_line (clone_device_answer state n d)
 unfolding clone_device_answer
@@ -89,13 +85,13 @@ clone_device-none s state n d none r = rw (device_is s state d None r none) (bar
 pub clone_device-used : (s : SessionState) (state : State) (n d key : ℕ) → named s.devices d ≡ Some key → is_free s.devices n ≡ false → Represents s state → Gives s condition_line (clone_device_answer state n d)
 unfolding clone_device_answer
 clone_device-used s state n d key at used r =
-    let here : is_free state.devices n ≡ false = ap (λ (v : SessionState). is_free v.devices n) (sym r.is) ∙ used in
+    let here : is_free state.devices n ≡ false = ap (λ (v : SessionState). is_free v.devices n) (sym r) ∙ used in
     rw (device_is s state d (Some key) r at, here) (barred-gives s state r)
 
 pub clone_device-gives : (s : SessionState) (state : State) (now : HostState) (after : List (Option ℕ)) (n d key : ℕ) → named s.devices d ≡ Some key → is_free s.devices n ≡ true → now ≡ device_cloned s.host key → after ≡ set_name s.devices n key → Represents s state → Gives (record s { host = now; devices = after }) ok_line (clone_device_answer state n d)
 unfolding clone_device_answer
 clone_device-gives s state now after n d key at free is put r =
-    let here : is_free state.devices n ≡ true = ap (λ (v : SessionState). is_free v.devices n) (sym r.is) ∙ free in
+    let here : is_free state.devices n ≡ true = ap (λ (v : SessionState). is_free v.devices n) (sym r) ∙ free in
     let host : now ≡ device_cloned state.host key = is ∙ ap (λ (h : HostState). device_cloned h key) (host_is s state r) in
-    let names : after ≡ set_name state.devices n key = put ∙ ap (λ (v : SessionState). set_name v.devices n key) r.is in
+    let names : after ≡ set_name state.devices n key = put ∙ ap (λ (v : SessionState). set_name v.devices n key) r in
     rw (device_is s state d (Some key) r at, here) (record { state = represents-devices s state now (device_cloned state.host key) after (set_name state.devices n key) r host names; same = refl })

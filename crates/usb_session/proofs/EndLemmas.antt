@@ -1,5 +1,5 @@
 -- The end of a session.
-use Rattle.std.proofs.Common.{Bool, true, false, ◌≡◌, ◌≢◌, ℕ, ◌<◌, ◌≤◌, ◌+◌, ◌-◌, arith, suc, zero, List, slice_get, length, Option, Some, None, refl, ap, sym, ◌∙◌, subst, inl, inr}
+use Rattle.std.proofs.Common.{Bool, true, false, ◌≡◌, ◌≢◌, ℕ, ◌<◌, ◌+◌, arith, suc, zero, List, slice_get, length, Option, Some, None, refl, ap, sym, ◌∙◌, subst, inl, inr}
 use Rattle.std.specs.Option.{option_map}
 use Rattle.std.proofs.lemmas.Bool.{cases_eq, cases_lt}
 use Rattle.std.proofs.lemmas.Bool.Decides.{nat_tests}
@@ -89,7 +89,7 @@ no_name n below is = let few : nat_le n 63 ≡ true = grind (arith, nat_tests) i
 pub end-host : (s : SessionState) (host now : HostState) (state : State) → s.host ≡ host → now ≡ finished host → Represents s (devices_closed (interfaces_closed (futures_closed (endpoints_closed (writers_closed (readers_closed state 64) 64) 64) 64) 64) 64) → now ≡ ended state
 unfolding ended all_closed
 end-host s host now state here done r =
-    done ∙ ap finished (sym here ∙ ap (λ (v : SessionState). v.host) r.is)
+    done ∙ ap finished (sym here ∙ ap (λ (v : SessionState). v.host) r)
 
 -- one number more
 pub below-more : {S : Type 0} (act : S → ℕ → S) (state : S) (n : ℕ) → below act state (n + 1) ≡ act (below act state n) n

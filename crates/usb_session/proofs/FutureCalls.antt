@@ -84,18 +84,15 @@ unfolding start_answer
 start-gives s state now after n f request timeout target o r bars free number put future is =
     let b = begun o f s.host request timeout future in
     let there : device_of_target state target ≡ Some b.device = number-is s state target r ∙ sym number ∙ b.some in
-    let free_there : is_free state.futures n ≡ true = ap (λ (v : SessionState). is_free v.futures n) (sym r.is) ∙ free in
+    let free_there : is_free state.futures n ≡ true = ap (λ (v : SessionState). is_free v.futures n) (sym r) ∙ free in
     let open_there : bars_control state.host.kernel.past ≡ false = ap (λ (h : HostState). bars_control h.kernel.past) (sym (host_is s state r)) ∙ bars in
     let host : now ≡ request_started s.host b.device request timeout = is ∙ ap (started_host s.host request timeout) b.some in
     rw (there, free_there, open_there)
     (record {
-      state = record {
-        is =
-            ap (λ (h : HostState). record s { host = h; futures = after }) host
-            ∙ ap (λ (l : List (Option FutureState)). record s { host = request_started s.host b.device request timeout; futures = l }) (put ∙ ap (set_name s.futures n) b.fresh)
-            ∙ ap (λ (v : SessionState). record v { host = request_started v.host b.device request timeout; futures = set_name v.futures n (fresh_future v.host request timeout) }) r.is;
-        few = r.few;
-      };
+      state =
+          ap (λ (h : HostState). record s { host = h; futures = after }) host
+          ∙ ap (λ (l : List (Option FutureState)). record s { host = request_started s.host b.device request timeout; futures = l }) (put ∙ ap (set_name s.futures n) b.fresh)
+          ∙ ap (λ (v : SessionState). record v { host = request_started v.host b.device request timeout; futures = set_name v.futures n (fresh_future v.host request timeout) }) r;
       same = refl;
     })
 
@@ -124,7 +121,7 @@ start-none s state now n request timeout target o r number none is =
 pub start-used : (s : SessionState) (state : State) (n : ℕ) (request : TransferData) (timeout : ℕ) (target : ControlTarget) → Represents s state → is_free s.futures n ≡ false → Gives s condition_line (start_answer state n target request timeout)
 unfolding start_answer
 start-used s state n request timeout target r used =
-    let there : is_free state.futures n ≡ false = ap (λ (v : SessionState). is_free v.futures n) (sym r.is) ∙ used in
+    let there : is_free state.futures n ≡ false = ap (λ (v : SessionState). is_free v.futures n) (sym r) ∙ used in
     barred-by s state n request timeout (device_of_target state target) r (λ device some. rw there (barred-gives s state r))
 
 pub start-bars : (s : SessionState) (state : State) (n : ℕ) (request : TransferData) (timeout : ℕ) (target : ControlTarget) → Represents s state → bars_control s.host.kernel.past ≡ true → Gives s condition_line (start_answer state n target request timeout)
@@ -139,7 +136,7 @@ start-bars s state n request timeout target r bars =
 
 -- what is open under a name of a future
 future-at : (s : SessionState) (state : State) (n : ℕ) (o : Option FutureState) → Represents s state → named s.futures n ≡ o → named state.futures n ≡ o
-future-at s state n o r at = ap (λ (v : SessionState). named v.futures n) (sym r.is) ∙ at
+future-at s state n o r at = ap (λ (v : SessionState). named v.futures n) (sym r) ∙ at
 
 pub future-same_sound : (s : SessionState) (after : List (Option FutureState)) → IsSound s → after ≡ s.futures → IsSound (record s { futures = after })
 future-same_sound s after sound same = subst (λ (l : List (Option FutureState)). IsSound (record s { futures = l })) (sym same) sound
@@ -166,13 +163,10 @@ polled-by : (s : SessionState) (state : State) (last : HostState) (after : List 
 polled-by s state last after n f None answer r rest is came = absurd (cc)
 polled-by s state last after n f (Some given) answer r rest is came =
     record {
-      state = record {
-        is =
-            ap (λ (h : HostState). record s { host = h; futures = after }) is
-            ∙ ap (λ (l : List (Option FutureState)). record s { host = future_taken s.host f; futures = l }) rest
-            ∙ ap (λ (v : SessionState). record v { host = future_taken v.host f; futures = freed v.futures n }) r.is;
-        few = r.few;
-      };
+      state =
+          ap (λ (h : HostState). record s { host = h; futures = after }) is
+          ∙ ap (λ (l : List (Option FutureState)). record s { host = future_taken s.host f; futures = l }) rest
+          ∙ ap (λ (v : SessionState). record v { host = future_taken v.host f; futures = freed v.futures n }) r;
       same = ap received_line (same_Some given answer came);
     }
 
@@ -225,13 +219,10 @@ pub waited-gives : (s : SessionState) (state : State) (now : HostState) (after :
 waited-gives s state now after n f answer r was free taken came =
     rw (future-at s state n (Some f) r was)
     (record {
-      state = record {
-        is =
-            ap (λ (h : HostState). record s { host = h; futures = after }) taken
-            ∙ ap (λ (l : List (Option FutureState)). record s { host = future_taken (future_awaited s.host f) f; futures = l }) free
-            ∙ ap (λ (v : SessionState). record v { host = future_taken (future_awaited v.host f) f; futures = freed v.futures n }) r.is;
-        few = r.few;
-      };
+      state =
+          ap (λ (h : HostState). record s { host = h; futures = after }) taken
+          ∙ ap (λ (l : List (Option FutureState)). record s { host = future_taken (future_awaited s.host f) f; futures = l }) free
+          ∙ ap (λ (v : SessionState). record v { host = future_taken (future_awaited v.host f) f; futures = freed v.futures n }) r;
       same = ap (came_line received_line) (ap (λ (h : HostState). future_answer (future_awaited h f) f) (sym (host_is s state r)) ∙ came);
     })
 

@@ -27,18 +27,15 @@ future-closed_spare h now f is = ap (λ (g : HostState). g.kernel.spare) is ∙ 
 future-represents : (s : SessionState) (state : State) (after : List (Option FutureState)) (n : ℕ) (f : FutureState) → Represents s state → named s.futures n ≡ Some f → after ≡ freed s.futures n → Represents (record s { host = future_closed s.host f; futures = after }) (future_closed_under state n)
 unfolding future_closed_under
 future-represents s state after n f r was rest =
-    let here : named state.futures n ≡ Some f = ap (λ (v : SessionState). named v.futures n) (sym r.is) ∙ was in
-    rw here record {
-      is =
-          ap (λ (l : List (Option FutureState)). record s { host = future_closed s.host f; futures = l }) rest
-          ∙ ap (λ (v : SessionState). record v { host = future_closed v.host f; futures = freed v.futures n }) r.is;
-      few = r.few;
-    }
+    let here : named state.futures n ≡ Some f = ap (λ (v : SessionState). named v.futures n) (sym r) ∙ was in
+    rw here
+    (ap (λ (l : List (Option FutureState)). record s { host = future_closed s.host f; futures = l }) rest
+    ∙ ap (λ (v : SessionState). record v { host = future_closed v.host f; futures = freed v.futures n }) r)
 
 future-none : (s : SessionState) (state : State) (n : ℕ) → Represents s state → named s.futures n ≡ None → Represents s (future_closed_under state n)
 unfolding future_closed_under
 future-none s state n r none =
-    let here : named state.futures n ≡ None = ap (λ (v : SessionState). named v.futures n) (sym r.is) ∙ none in
+    let here : named state.futures n ≡ None = ap (λ (v : SessionState). named v.futures n) (sym r) ∙ none in
     rw here r
 
 pub close_future-code : (S s : SessionState) (now : HostState) (after : List (Option FutureState)) (n : ℕ) (f : FutureState) → s ≡ S → named s.futures n ≡ Some f → after ≡ freed s.futures n → now ≡ future_closed s.host f → (state : State) → Represents S state → Represents (record s { host = now; futures = after }) (future_closed_under state n)

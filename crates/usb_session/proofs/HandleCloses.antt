@@ -13,18 +13,15 @@ use Rattle.usb_session_calls.proofs.NameLemmas.{freed-none}
 interface-represents : (s : SessionState) (state : State) (after : List (Option InterfaceState)) (i : ℕ) (f : InterfaceState) → Represents s state → named s.interfaces i ≡ Some f → after ≡ freed s.interfaces i → Represents (record s { host = handle_closed s.host f.key; interfaces = after }) (interface_closed state i)
 unfolding interface_closed
 interface-represents s state after i f r was rest =
-    let here : named state.interfaces i ≡ Some f = ap (λ (v : SessionState). named v.interfaces i) (sym r.is) ∙ was in
-    rw here record {
-      is =
-          ap (λ (l : List (Option InterfaceState)). record s { host = handle_closed s.host f.key; interfaces = l }) rest
-          ∙ ap (λ (v : SessionState). record v { host = handle_closed v.host f.key; interfaces = freed v.interfaces i }) r.is;
-      few = r.few;
-    }
+    let here : named state.interfaces i ≡ Some f = ap (λ (v : SessionState). named v.interfaces i) (sym r) ∙ was in
+    rw here
+    (ap (λ (l : List (Option InterfaceState)). record s { host = handle_closed s.host f.key; interfaces = l }) rest
+    ∙ ap (λ (v : SessionState). record v { host = handle_closed v.host f.key; interfaces = freed v.interfaces i }) r)
 
 interface-none : (s : SessionState) (state : State) (i : ℕ) → Represents s state → named s.interfaces i ≡ None → Represents s (interface_closed state i)
 unfolding interface_closed
 interface-none s state i r none =
-    let here : named state.interfaces i ≡ None = ap (λ (v : SessionState). named v.interfaces i) (sym r.is) ∙ none in
+    let here : named state.interfaces i ≡ None = ap (λ (v : SessionState). named v.interfaces i) (sym r) ∙ none in
     rw here r
 
 pub close_interface-code : (S s : SessionState) (now : HostState) (after : List (Option InterfaceState)) (i : ℕ) (f : InterfaceState) → s ≡ S → named s.interfaces i ≡ Some f → after ≡ freed s.interfaces i → now ≡ handle_closed s.host f.key → (state : State) → Represents S state → Represents (record s { host = now; interfaces = after }) (interface_closed state i)
@@ -46,18 +43,15 @@ interface-sound_same s after i sound none rest =
 device-represents : (s : SessionState) (state : State) (after : List (Option ℕ)) (d key : ℕ) → Represents s state → named s.devices d ≡ Some key → after ≡ freed s.devices d → Represents (record s { host = device_closed s.host key; devices = after }) (name_closed state d)
 unfolding name_closed
 device-represents s state after d key r was rest =
-    let here : named state.devices d ≡ Some key = ap (λ (v : SessionState). named v.devices d) (sym r.is) ∙ was in
-    rw here record {
-      is =
-          ap (λ (l : List (Option ℕ)). record s { host = device_closed s.host key; devices = l }) rest
-          ∙ ap (λ (v : SessionState). record v { host = device_closed v.host key; devices = freed v.devices d }) r.is;
-      few = r.few;
-    }
+    let here : named state.devices d ≡ Some key = ap (λ (v : SessionState). named v.devices d) (sym r) ∙ was in
+    rw here
+    (ap (λ (l : List (Option ℕ)). record s { host = device_closed s.host key; devices = l }) rest
+    ∙ ap (λ (v : SessionState). record v { host = device_closed v.host key; devices = freed v.devices d }) r)
 
 device-none : (s : SessionState) (state : State) (d : ℕ) → Represents s state → named s.devices d ≡ None → Represents s (name_closed state d)
 unfolding name_closed
 device-none s state d r none =
-    let here : named state.devices d ≡ None = ap (λ (v : SessionState). named v.devices d) (sym r.is) ∙ none in
+    let here : named state.devices d ≡ None = ap (λ (v : SessionState). named v.devices d) (sym r) ∙ none in
     rw here r
 
 pub close_name-code : (S s : SessionState) (now : HostState) (after : List (Option ℕ)) (d key : ℕ) → s ≡ S → named s.devices d ≡ Some key → after ≡ freed s.devices d → now ≡ device_closed s.host key → (state : State) → Represents S state → Represents (record s { host = now; devices = after }) (name_closed state d)

@@ -1,5 +1,5 @@
 -- Lines with steps of their own: the steps are lent, a call is made, and the rest of them is applied.
-use Rattle.std.proofs.Common.{◌≡◌, ℕ, ◌≤◌, ◌+◌, List, length, Option, Some, Result, Ok, Err, Bool, String, string_bytes, refl, ap, sym, ◌∙◌, subst}
+use Rattle.std.proofs.Common.{◌≡◌, ℕ, ◌≤◌, ◌+◌, List, length, Option, Some, Result, Ok, Err, Bool, String, string_bytes, ap, sym, ◌∙◌, subst}
 use Rattle.std.specs.declared.alloc.Global.{Global}
 use Rattle.usb_device_ledger.proofs.DeviceLemmas.{counts-same}
 use Rattle.usb_kernel_devices.specs.declared.step.KernelStep.{KernelStep}

@@ -80,12 +80,9 @@ open-by state host now after d key (Err error) r tried is put = absurd (cc)
 open-by state host now after d key (Ok k) r tried is put =
     let same : k ≡ key = cc in
     record {
-      state = record {
-        is =
-            ap (λ (g : HostState). record (session_of state) { host = g; devices = after }) is
-            ∙ ap (λ (l : List (Option ℕ)). record (session_of state) { host = host; devices = l }) (put ∙ ap (set_name state.devices d) (sym same));
-        few = r.few;
-      };
+      state =
+          ap (λ (g : HostState). record (session_of state) { host = g; devices = after }) is
+          ∙ ap (λ (l : List (Option ℕ)). record (session_of state) { host = host; devices = l }) (put ∙ ap (set_name state.devices d) (sym same));
       same = refl;
     }
 
@@ -98,7 +95,7 @@ open-of state now after d key bus address r free tried is put = rw free (open-by
 
 pub open-gives : (s : SessionState) (state : State) (now : HostState) (after : List (Option ℕ)) (d key bus address : ℕ) → Represents s state → OpenGives state d key bus address now after s
 open-gives s state now after d key bus address r =
-    subst (OpenGives state d key bus address now after) (sym r.is) (open-of state now after d key bus address (record { is = refl; few = r.few }))
+    subst (OpenGives state d key bus address now after) (sym r) (open-of state now after d key bus address refl)
 
 -- or that in which it is refused
 refused-by : (state : State) (host now : HostState) (d : ℕ) (error : ErrorState) (t : Result ℕ ErrorState) → Represents (session_of state) state → t ≡ Err error → now ≡ host → Gives (record (session_of state) { host = now }) (error_line error) (opened_as (with_host state host) d t)
@@ -118,13 +115,13 @@ refused-of state now d bus address error r free tried is = rw free (refused-by s
 
 pub open-refused : (s : SessionState) (state : State) (now : HostState) (d bus address : ℕ) (error : ErrorState) → Represents s state → OpenRefused state d bus address error now s
 open-refused s state now d bus address error r =
-    subst (OpenRefused state d bus address error now) (sym r.is) (refused-of state now d bus address error (record { is = refl; few = r.few }))
+    subst (OpenRefused state d bus address error now) (sym r) (refused-of state now d bus address error refl)
 
 -- or that in which it is barred
 pub open-barred : (s : SessionState) (state : State) (d bus address : ℕ) → Represents s state → is_free s.devices d ≡ false → Gives s condition_line (open_answer state d bus address)
 unfolding open_answer
 open-barred s state d bus address r used =
-    let here : is_free state.devices d ≡ false = ap (λ (v : SessionState). is_free v.devices d) (sym r.is) ∙ used in
+    let here : is_free state.devices d ≡ false = ap (λ (v : SessionState). is_free v.devices d) (sym r) ∙ used in
     rw here (barred-gives s state r)
 
 pub open-spare : {A : Type 0} (h now : HostState) (bus address : ℕ) (r : Result A (Fail ErrorState)) → Leaves r now (host_opened h bus address) h → now.kernel.spare ≡ h.kernel.spare

@@ -8,30 +8,26 @@ use Rattle.usb_device_host.specs.HostState.{HostState}
 use Rattle.usb_io.specs.Readers.{ReaderState, fresh_reader}
 use Rattle.usb_session_text.specs.Calls.{condition_line, ok_line}
 use Rattle.usb_session_calls.specs.Names.{named, is_free, freed, set_name}
-use Rattle.usb_session_calls.specs.EndpointNames.{Own, OfReader, endpoint_under}
-use Rattle.usb_session_calls.specs.BareReaders.{bare_of}
-use Rattle.usb_session_calls.specs.State.{State, Endpoint, Reader, Writer, endpoint_state, state_of_reader}
-use Rattle.usb_session_calls.specs.Readers.{as_streamed, nothing_consumed, with_reader, reader_on, reader_answer, without_reader, inner_answer}
+use Rattle.usb_session_calls.specs.EndpointNames.{Own, OfReader}
+use Rattle.usb_session_calls.specs.State.{State, Reader, tickets_at, endpoint_of_reader}
+use Rattle.usb_session_calls.specs.Readers.{nothing_consumed, with_reader, reader_answer, without_reader, inner_answer}
 use Rattle.usb_session_calls.specs.Submits.{has_direction}
 use Rattle.usb_session_calls.specs.Answer.{ok_answer}
 use Rattle.usb_session_calls.specs.SessionState.{SessionState, IsSound, open_under}
 use Rattle.usb_session_calls.specs.Relation.{Represents}
 use Rattle.usb_session_calls.proofs.Answering.{Gives, barred-gives, host_is}
-use Rattle.usb_session_calls.proofs.EndpointNameLemmas.{reader-changed, set-changes, freed-changes}
+use Rattle.usb_session_calls.proofs.EndpointNameLemmas.{set-changes, freed-changes}
 use Rattle.usb_session_calls.proofs.NameLemmas.{free-none, length-freed, length-set_name}
-use Rattle.usb_session_calls.proofs.Called.{own-open, reader-open, few-put, state_with, represents-open, represents-freed, represents-set, represents-reader_freed, endpoints_kept, readers_kept, writers_kept, set-kept}
+use Rattle.usb_session_calls.proofs.Called.{own-open, reader-open, represents-open, represents-freed, represents-set, represents-reader_freed, endpoints_kept, readers_kept, writers_kept, set-kept}
 use Rattle.usb_session.proofs.KeptNames.{kept-at, kept-none, kept-free}
 use Rattle.usb_session.proofs.Replaced.{reader_endpoint}
 use Rattle.usb_session.proofs.Moves.{Moves, sound-moved, is-direction, not-direction, barred-used, barred-direction}
 
--- a reader is open under a name that was free
-represents-made : (s : SessionState) (state : State) (now : HostState) (n : ℕ) (x : Reader) → Represents s state → is_free state.readers n ≡ true → x.endpoint.taken ≤ length x.endpoint.tickets
-    → Represents (record s { host = now; readers = set_name s.readers n (state_of_reader x) }) (record state { host = now; readers = set_name state.readers n x })
-represents-made s state now n x is free few =
-    represents-open s state now s.endpoints (set_name s.readers n (state_of_reader x)) s.writers state.endpoints (set_name state.readers n x) state.writers is
-    (endpoints_kept s state is) (set-kept state_of_reader state.readers s.readers n x (readers_kept s state is)) (writers_kept s state is)
-    (few-put (endpoint_under state) (endpoint_under (state_with state now state.endpoints (set_name state.readers n x) state.writers)) (OfReader n) x.endpoint
-    (reader-changed (λ (z : Reader). z.endpoint) (λ (z : Writer). z.endpoint) state.endpoints state.readers state.writers (set_name state.readers n x) n (Some x) (set-changes state.readers n x free)) few is.few)
+-- a reader is open under a name
+represents-made : (s : SessionState) (state : State) (now : HostState) (n : ℕ) (x : Reader) → Represents s state → Represents (record s { host = now; readers = set_name s.readers n x.state }) (record state { host = now; readers = set_name state.readers n x })
+represents-made s state now n x r =
+    represents-open s state now s.endpoints (set_name s.readers n x.state) s.writers state.endpoints (set_name state.readers n x) state.writers r
+    (endpoints_kept s state r) (set-kept (λ (z : Reader). z.state) state.readers s.readers n x (readers_kept s state r)) (writers_kept s state r)
 
 -- the endpoint of the name e, and the reader of the name r
 module _ (s : SessionState) (e r : ℕ) where
@@ -69,16 +65,16 @@ module _ (s : SessionState) (e r : ℕ) where
     pub reader-gives : (size : ℕ) → y ≡ fresh_reader x size → direction_of_address x.address ≡ In → (state : State) → Represents s state → Gives (record s { endpoints = es; readers = xs }) ok_line (reader_answer state r e size)
     unfolding reader_answer
     reader-gives size fresh direction state is =
-        let k = kept-at endpoint_state state.endpoints s.endpoints (endpoints_kept s state is) e x was in
+        let k = kept-at _ _ _ (endpoints_kept s state is) e x was in
         let h = k.entry in
-        let new : Reader = record { endpoint = as_streamed h; bare = bare_of (fresh_reader (endpoint_state h) size); before = take h.taken h.tickets; given = []; consumed = nothing_consumed h.tickets } in
-        let there : is_free state.readers r ≡ true = kept-free state_of_reader state.readers s.readers (readers_kept s state is) r ∙ free in
-        let same : state_of_reader new ≡ y = ap (λ (z : EndpointState). fresh_reader z size) k.same ∙ sym fresh in
-        let input : has_direction In (endpoint_state h) ≡ true = ap (has_direction In) k.same ∙ is-direction In x direction in
+        let new : Reader = record { state = fresh_reader h.state size; before = h.taken; taken = []; given = []; consumed = nothing_consumed (tickets_at h) } in
+        let there : is_free state.readers r ≡ true = kept-free _ _ _ (readers_kept s state is) r ∙ free in
+        let same : new.state ≡ y = ap (λ (z : EndpointState). fresh_reader z size) k.same ∙ sym fresh in
+        let input : has_direction In h.state ≡ true = ap (has_direction In) k.same ∙ is-direction In x direction in
         rw (k.is, there, input, rest, put, ← same)
         (record {
-          state = subst (λ (host : HostState). Represents (record s { endpoints = freed s.endpoints e; readers = set_name s.readers r (state_of_reader new) }) (record state { host = host; endpoints = freed state.endpoints e; readers = set_name state.readers r new })) (host_is s state is)
-              (represents-made (record s { endpoints = freed s.endpoints e }) (record state { host = s.host; endpoints = freed state.endpoints e }) s.host r new (represents-freed s state s.host e is) there (is.few (Own e) h k.is));
+          state = subst (λ (host : HostState). Represents (record s { endpoints = freed s.endpoints e; readers = set_name s.readers r new.state }) (record state { host = host; endpoints = freed state.endpoints e; readers = set_name state.readers r new })) (host_is s state is)
+              (represents-made (record s { endpoints = freed s.endpoints e }) (record state { host = s.host; endpoints = freed state.endpoints e }) s.host r new (represents-freed s state s.host e is));
           same = refl;
         })
 
@@ -86,17 +82,17 @@ module _ (s : SessionState) (e r : ℕ) where
   pub reader-used : (size : ℕ) (state : State) → is_free s.readers r ≡ false → Represents s state → Gives s condition_line (reader_answer state r e size)
   unfolding reader_answer
   reader-used size state used is =
-      barred-used s state (named state.endpoints e) (is_free state.readers r) _ is (kept-free state_of_reader state.readers s.readers (readers_kept s state is) r ∙ used)
+      barred-used s state (named state.endpoints e) (is_free state.readers r) _ is (kept-free _ _ _ (readers_kept s state is) r ∙ used)
 
   pub reader-none : (size : ℕ) (state : State) → named s.endpoints e ≡ None → Represents s state → Gives s condition_line (reader_answer state r e size)
   unfolding reader_answer
-  reader-none size state none is = rw (kept-none endpoint_state state.endpoints s.endpoints (endpoints_kept s state is) e none) (barred-gives s state is)
+  reader-none size state none is = rw (kept-none _ _ _ (endpoints_kept s state is) e none) (barred-gives s state is)
 
   pub reader-out : (size : ℕ) (x : EndpointState) (state : State) → named s.endpoints e ≡ Some x → direction_of_address x.address ≢ In → Represents s state → Gives s condition_line (reader_answer state r e size)
   unfolding reader_answer
   reader-out size x state was other is =
-      let k = kept-at endpoint_state state.endpoints s.endpoints (endpoints_kept s state is) e x was in
-      let direction : has_direction In (endpoint_state k.entry) ≡ false = ap (has_direction In) k.same ∙ not-direction In x other in
+      let k = kept-at _ _ _ (endpoints_kept s state is) e x was in
+      let direction : has_direction In k.entry.state ≡ false = ap (has_direction In) k.same ∙ not-direction In x other in
       rw (k.is, direction) (barred-direction s state (is_free state.readers r) (ok_answer (with_reader state r e size k.entry)) is)
 
   -- the endpoint of a reader comes back
@@ -110,13 +106,13 @@ module _ (s : SessionState) (e r : ℕ) where
     pub inner-gives : (state : State) → Represents s state → Gives (record s { endpoints = es; readers = xs }) ok_line (inner_answer state e r)
     unfolding inner_answer
     inner-gives state is =
-        let k = kept-at state_of_reader state.readers s.readers (readers_kept s state is) r y was in
-        let own : is_free state.endpoints e ≡ true = kept-free endpoint_state state.endpoints s.endpoints (endpoints_kept s state is) e ∙ free in
-        let seen : endpoint_state k.entry.endpoint ≡ x = ap reader_endpoint k.same ∙ sym same in
+        let k = kept-at _ _ _ (readers_kept s state is) r y was in
+        let own : is_free state.endpoints e ≡ true = kept-free _ _ _ (endpoints_kept s state is) e ∙ free in
+        let seen : k.entry.state.endpoint ≡ x = ap reader_endpoint k.same ∙ sym same in
         rw (k.is, own, put, rest, ← seen)
         (record {
-          state = subst (λ (host : HostState). Represents (record s { endpoints = set_name s.endpoints e (endpoint_state k.entry.endpoint); readers = freed s.readers r }) (record state { host = host; endpoints = set_name state.endpoints e k.entry.endpoint; readers = freed state.readers r })) (host_is s state is)
-              (represents-set (record s { readers = freed s.readers r }) (record state { host = s.host; readers = freed state.readers r }) s.host e k.entry.endpoint (represents-reader_freed s state s.host r is) own (is.few (OfReader r) k.entry.endpoint (ap (option_map (λ (z : Reader). z.endpoint)) k.is)));
+          state = subst (λ (host : HostState). Represents (record s { endpoints = set_name s.endpoints e k.entry.state.endpoint; readers = freed s.readers r }) (record state { host = host; endpoints = set_name state.endpoints e (endpoint_of_reader k.entry); readers = freed state.readers r })) (host_is s state is)
+              (represents-set (record s { readers = freed s.readers r }) (record state { host = s.host; readers = freed state.readers r }) s.host e (endpoint_of_reader k.entry) (represents-reader_freed s state s.host r is));
           same = refl;
         })
 
@@ -124,8 +120,8 @@ module _ (s : SessionState) (e r : ℕ) where
   pub inner-used : (state : State) → is_free s.endpoints e ≡ false → Represents s state → Gives s condition_line (inner_answer state e r)
   unfolding inner_answer
   inner-used state used is =
-      barred-used s state (named state.readers r) (is_free state.endpoints e) (λ x. ok_answer (without_reader state e r x)) is (kept-free endpoint_state state.endpoints s.endpoints (endpoints_kept s state is) e ∙ used)
+      barred-used s state (named state.readers r) (is_free state.endpoints e) (λ x. ok_answer (without_reader state e r x)) is (kept-free _ _ _ (endpoints_kept s state is) e ∙ used)
 
   pub inner-none : (state : State) → named s.readers r ≡ None → Represents s state → Gives s condition_line (inner_answer state e r)
   unfolding inner_answer
-  inner-none state none is = rw (kept-none state_of_reader state.readers s.readers (readers_kept s state is) r none) (barred-gives s state is)
+  inner-none state none is = rw (kept-none _ _ _ (readers_kept s state is) r none) (barred-gives s state is)

@@ -1,8 +1,7 @@
 -- Sessions in which another endpoint, reader or writer is open under one name, or none any more.
-use Rattle.std.proofs.Common.{◌≡◌, ℕ, List, Option, Some, None, refl}
+use Rattle.std.proofs.Common.{ℕ, List, Option, refl}
 use Rattle.std.specs.Option.{option_map}
 use Rattle.usb_device_endpoint.specs.EndpointState.{EndpointState}
-use Rattle.usb_device_host.specs.HostState.{HostState}
 use Rattle.usb_io.specs.Readers.{ReaderState}
 use Rattle.usb_io.specs.Writers.{WriterState}
 use Rattle.usb_session_calls.specs.EndpointNames.{EndpointName, Own, OfReader, OfWriter}

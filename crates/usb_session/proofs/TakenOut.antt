@@ -10,7 +10,7 @@ use Rattle.usb_io.specs.Readers.{ReaderState}
 use Rattle.usb_io.specs.Writers.{WriterState}
 use Rattle.usb_session_text.specs.Calls.{condition_line}
 use Rattle.usb_session_calls.specs.Names.{named, change_named, freed, set_name, is_free}
-use Rattle.usb_session_calls.specs.State.{State, Endpoint, Reader, Writer, endpoint_state, state_of_reader, state_of_writer}
+use Rattle.usb_session_calls.specs.State.{State, Endpoint, Reader, Writer}
 use Rattle.usb_session_calls.specs.Answer.{Answer, condition_answer, if_open}
 use Rattle.usb_session_calls.specs.SessionState.{SessionState}
 use Rattle.usb_session_calls.specs.Relation.{Represents}
@@ -73,26 +73,26 @@ module _ {E : Type 0} (s : SessionState) (at now : HostState) (n m : ℕ) (same 
   pub answers-endpoint : (after : List (Option EndpointState)) (x y : EndpointState) (call : State → ℕ → Endpoint → Answer) → PutBack s.endpoints after n x y → CallAnswers at now x y before text result call
       → Answers (record s { host = at }) (record s { host = now; endpoints = after }) before text result (λ state. if_open (named state.endpoints m) (call state m) (condition_answer state))
   answers-endpoint after x y call back answers =
-      answers-some (λ (state : State). state.endpoints) (λ (z : SessionState). z.endpoints) endpoint_state endpoints_kept (record s { host = at }) (record s { host = now; endpoints = after }) n m same before text result x call back.was
+      answers-some (λ (state : State). state.endpoints) (λ (z : SessionState). z.endpoints) (λ (z : Endpoint). z.state) endpoints_kept (record s { host = at }) (record s { host = now; endpoints = after }) n m same before text result x call back.was
       (on_ok_weaker result
       (λ answers state h r is seen.
       subst (λ l. Answered (record s { host = now; endpoints = l }) (string_bytes before) (string_bytes text) (call state n h)) (back-is s.endpoints after n x y back)
-      (answers (record s { host = at }) state n h r refl back.was is)) answers)
+      (answers (record s { host = at }) state n h r refl is seen)) answers)
 
   pub answers-reader : (after : List (Option ReaderState)) (x y : ReaderState) (call : State → ℕ → Reader → Answer) → PutBack s.readers after n x y → ReaderAnswers at now x y before text result call
       → Answers (record s { host = at }) (record s { host = now; readers = after }) before text result (λ state. if_open (named state.readers m) (call state m) (condition_answer state))
   answers-reader after x y call back answers =
-      answers-some (λ (state : State). state.readers) (λ (z : SessionState). z.readers) state_of_reader readers_kept (record s { host = at }) (record s { host = now; readers = after }) n m same before text result x call back.was
+      answers-some (λ (state : State). state.readers) (λ (z : SessionState). z.readers) (λ (z : Reader). z.state) readers_kept (record s { host = at }) (record s { host = now; readers = after }) n m same before text result x call back.was
       (on_ok_weaker result
       (λ answers state h r is seen.
       subst (λ l. Answered (record s { host = now; readers = l }) (string_bytes before) (string_bytes text) (call state n h)) (back-is s.readers after n x y back)
-      (answers (record s { host = at }) state n h r refl (record { reader = back.was; is = is; same = seen }))) answers)
+      (answers (record s { host = at }) state n h r refl is seen)) answers)
 
   pub answers-writer : (after : List (Option WriterState)) (x y : WriterState) (call : State → ℕ → Writer → Answer) → PutBack s.writers after n x y → WriterAnswers at now x y before text result call
       → Answers (record s { host = at }) (record s { host = now; writers = after }) before text result (λ state. if_open (named state.writers m) (call state m) (condition_answer state))
   answers-writer after x y call back answers =
-      answers-some (λ (state : State). state.writers) (λ (z : SessionState). z.writers) state_of_writer writers_kept (record s { host = at }) (record s { host = now; writers = after }) n m same before text result x call back.was
+      answers-some (λ (state : State). state.writers) (λ (z : SessionState). z.writers) (λ (z : Writer). z.state) writers_kept (record s { host = at }) (record s { host = now; writers = after }) n m same before text result x call back.was
       (on_ok_weaker result
       (λ answers state h r is seen.
       subst (λ l. Answered (record s { host = now; writers = l }) (string_bytes before) (string_bytes text) (call state n h)) (back-is s.writers after n x y back)
-      (answers (record s { host = at }) state n h r refl (record { writer = back.was; is = is; same = seen }))) answers)
+      (answers (record s { host = at }) state n h r refl is seen)) answers)

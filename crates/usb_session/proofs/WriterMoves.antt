@@ -8,31 +8,26 @@ use Rattle.usb_device_host.specs.HostState.{HostState}
 use Rattle.usb_io.specs.Writers.{WriterState, fresh_writer}
 use Rattle.usb_session_text.specs.Calls.{condition_line, ok_line}
 use Rattle.usb_session_calls.specs.Names.{named, is_free, freed, set_name}
-use Rattle.usb_session_calls.specs.EndpointNames.{Own, OfWriter, endpoint_under}
-use Rattle.usb_session_calls.specs.BareWriters.{bare_writer}
-use Rattle.usb_session_calls.specs.State.{State, Endpoint, Reader, Writer, endpoint_state, state_of_writer}
-use Rattle.usb_session_calls.specs.Readers.{as_streamed}
-use Rattle.usb_session_calls.specs.Writers.{nothing_called, with_writer, writer_on, writer_answer, without_writer, writer_inner_answer}
+use Rattle.usb_session_calls.specs.EndpointNames.{Own, OfWriter}
+use Rattle.usb_session_calls.specs.State.{State, Writer, tickets_at, endpoint_of_writer}
+use Rattle.usb_session_calls.specs.Writers.{nothing_called, with_writer, writer_answer, without_writer, writer_inner_answer}
 use Rattle.usb_session_calls.specs.Submits.{has_direction}
 use Rattle.usb_session_calls.specs.Answer.{ok_answer}
 use Rattle.usb_session_calls.specs.SessionState.{SessionState, IsSound, open_under}
 use Rattle.usb_session_calls.specs.Relation.{Represents}
 use Rattle.usb_session_calls.proofs.Answering.{Gives, barred-gives, host_is}
-use Rattle.usb_session_calls.proofs.EndpointNameLemmas.{writer-changed, set-changes, freed-changes}
+use Rattle.usb_session_calls.proofs.EndpointNameLemmas.{set-changes, freed-changes}
 use Rattle.usb_session_calls.proofs.NameLemmas.{free-none, length-freed, length-set_name}
-use Rattle.usb_session_calls.proofs.Called.{own-open, writer-open, few-put, state_with, represents-open, represents-freed, represents-set, represents-writer_freed, endpoints_kept, readers_kept, writers_kept, set-kept}
+use Rattle.usb_session_calls.proofs.Called.{own-open, writer-open, represents-open, represents-freed, represents-set, represents-writer_freed, endpoints_kept, readers_kept, writers_kept, set-kept}
 use Rattle.usb_session.proofs.KeptNames.{kept-at, kept-none, kept-free}
 use Rattle.usb_session.proofs.Replaced.{writer_endpoint}
 use Rattle.usb_session.proofs.Moves.{Moves, sound-moved, is-direction, not-direction, barred-used, barred-direction}
 
--- a writer is open under a name that was free
-represents-made : (s : SessionState) (state : State) (now : HostState) (n : ℕ) (x : Writer) → Represents s state → is_free state.writers n ≡ true → x.endpoint.taken ≤ length x.endpoint.tickets
-    → Represents (record s { host = now; writers = set_name s.writers n (state_of_writer x) }) (record state { host = now; writers = set_name state.writers n x })
-represents-made s state now n x is free few =
-    represents-open s state now s.endpoints s.readers (set_name s.writers n (state_of_writer x)) state.endpoints state.readers (set_name state.writers n x) is
-    (endpoints_kept s state is) (readers_kept s state is) (set-kept state_of_writer state.writers s.writers n x (writers_kept s state is))
-    (few-put (endpoint_under state) (endpoint_under (state_with state now state.endpoints state.readers (set_name state.writers n x))) (OfWriter n) x.endpoint
-    (writer-changed (λ (z : Reader). z.endpoint) (λ (z : Writer). z.endpoint) state.endpoints state.readers state.writers (set_name state.writers n x) n (Some x) (set-changes state.writers n x free)) few is.few)
+-- a writer is open under a name
+represents-made : (s : SessionState) (state : State) (now : HostState) (n : ℕ) (x : Writer) → Represents s state → Represents (record s { host = now; writers = set_name s.writers n x.state }) (record state { host = now; writers = set_name state.writers n x })
+represents-made s state now n x r =
+    represents-open s state now s.endpoints s.readers (set_name s.writers n x.state) state.endpoints state.readers (set_name state.writers n x) r
+    (endpoints_kept s state r) (readers_kept s state r) (set-kept (λ (z : Writer). z.state) state.writers s.writers n x (writers_kept s state r))
 
 -- the endpoint of the name e, and the writer of the name w
 module _ (s : SessionState) (e w : ℕ) where
@@ -70,16 +65,16 @@ module _ (s : SessionState) (e w : ℕ) where
     pub writer-gives : (size : ℕ) → y ≡ fresh_writer x size → direction_of_address x.address ≡ Out → (state : State) → Represents s state → Gives (record s { endpoints = es; writers = xs }) ok_line (writer_answer state w e size)
     unfolding writer_answer
     writer-gives size fresh direction state is =
-        let k = kept-at endpoint_state state.endpoints s.endpoints (endpoints_kept s state is) e x was in
+        let k = kept-at _ _ _ (endpoints_kept s state is) e x was in
         let h = k.entry in
-        let new : Writer = record { endpoint = as_streamed h; bare = bare_writer (fresh_writer (endpoint_state h) size); calls = nothing_called h.tickets } in
-        let there : is_free state.writers w ≡ true = kept-free state_of_writer state.writers s.writers (writers_kept s state is) w ∙ free in
-        let same : state_of_writer new ≡ y = ap (λ (z : EndpointState). fresh_writer z size) k.same ∙ sym fresh in
-        let input : has_direction Out (endpoint_state h) ≡ true = ap (has_direction Out) k.same ∙ is-direction Out x direction in
+        let new : Writer = record { state = fresh_writer h.state size; taken = h.taken; calls = nothing_called (tickets_at h) } in
+        let there : is_free state.writers w ≡ true = kept-free _ _ _ (writers_kept s state is) w ∙ free in
+        let same : new.state ≡ y = ap (λ (z : EndpointState). fresh_writer z size) k.same ∙ sym fresh in
+        let input : has_direction Out h.state ≡ true = ap (has_direction Out) k.same ∙ is-direction Out x direction in
         rw (k.is, there, input, rest, put, ← same)
         (record {
-          state = subst (λ (host : HostState). Represents (record s { endpoints = freed s.endpoints e; writers = set_name s.writers w (state_of_writer new) }) (record state { host = host; endpoints = freed state.endpoints e; writers = set_name state.writers w new })) (host_is s state is)
-              (represents-made (record s { endpoints = freed s.endpoints e }) (record state { host = s.host; endpoints = freed state.endpoints e }) s.host w new (represents-freed s state s.host e is) there (is.few (Own e) h k.is));
+          state = subst (λ (host : HostState). Represents (record s { endpoints = freed s.endpoints e; writers = set_name s.writers w new.state }) (record state { host = host; endpoints = freed state.endpoints e; writers = set_name state.writers w new })) (host_is s state is)
+              (represents-made (record s { endpoints = freed s.endpoints e }) (record state { host = s.host; endpoints = freed state.endpoints e }) s.host w new (represents-freed s state s.host e is));
           same = refl;
         })
 
@@ -87,17 +82,17 @@ module _ (s : SessionState) (e w : ℕ) where
   pub writer-used : (size : ℕ) (state : State) → is_free s.writers w ≡ false → Represents s state → Gives s condition_line (writer_answer state w e size)
   unfolding writer_answer
   writer-used size state used is =
-      barred-used s state (named state.endpoints e) (is_free state.writers w) _ is (kept-free state_of_writer state.writers s.writers (writers_kept s state is) w ∙ used)
+      barred-used s state (named state.endpoints e) (is_free state.writers w) _ is (kept-free _ _ _ (writers_kept s state is) w ∙ used)
 
   pub writer-none : (size : ℕ) (state : State) → named s.endpoints e ≡ None → Represents s state → Gives s condition_line (writer_answer state w e size)
   unfolding writer_answer
-  writer-none size state none is = rw (kept-none endpoint_state state.endpoints s.endpoints (endpoints_kept s state is) e none) (barred-gives s state is)
+  writer-none size state none is = rw (kept-none _ _ _ (endpoints_kept s state is) e none) (barred-gives s state is)
 
   pub writer-in : (size : ℕ) (x : EndpointState) (state : State) → named s.endpoints e ≡ Some x → direction_of_address x.address ≢ Out → Represents s state → Gives s condition_line (writer_answer state w e size)
   unfolding writer_answer
   writer-in size x state was other is =
-      let k = kept-at endpoint_state state.endpoints s.endpoints (endpoints_kept s state is) e x was in
-      let direction : has_direction Out (endpoint_state k.entry) ≡ false = ap (has_direction Out) k.same ∙ not-direction Out x other in
+      let k = kept-at _ _ _ (endpoints_kept s state is) e x was in
+      let direction : has_direction Out k.entry.state ≡ false = ap (has_direction Out) k.same ∙ not-direction Out x other in
       rw (k.is, direction) (barred-direction s state (is_free state.writers w) (ok_answer (with_writer state w e size k.entry)) is)
 
   -- the endpoint of a writer comes back
@@ -111,13 +106,13 @@ module _ (s : SessionState) (e w : ℕ) where
     pub inner-gives : (state : State) → Represents s state → Gives (record s { endpoints = es; writers = xs }) ok_line (writer_inner_answer state e w)
     unfolding writer_inner_answer
     inner-gives state is =
-        let k = kept-at state_of_writer state.writers s.writers (writers_kept s state is) w y was in
-        let own : is_free state.endpoints e ≡ true = kept-free endpoint_state state.endpoints s.endpoints (endpoints_kept s state is) e ∙ free in
-        let seen : endpoint_state k.entry.endpoint ≡ x = ap writer_endpoint k.same ∙ sym same in
+        let k = kept-at _ _ _ (writers_kept s state is) w y was in
+        let own : is_free state.endpoints e ≡ true = kept-free _ _ _ (endpoints_kept s state is) e ∙ free in
+        let seen : k.entry.state.endpoint ≡ x = ap writer_endpoint k.same ∙ sym same in
         rw (k.is, own, put, rest, ← seen)
         (record {
-          state = subst (λ (host : HostState). Represents (record s { endpoints = set_name s.endpoints e (endpoint_state k.entry.endpoint); writers = freed s.writers w }) (record state { host = host; endpoints = set_name state.endpoints e k.entry.endpoint; writers = freed state.writers w })) (host_is s state is)
-              (represents-set (record s { writers = freed s.writers w }) (record state { host = s.host; writers = freed state.writers w }) s.host e k.entry.endpoint (represents-writer_freed s state s.host w is) own (is.few (OfWriter w) k.entry.endpoint (ap (option_map (λ (z : Writer). z.endpoint)) k.is)));
+          state = subst (λ (host : HostState). Represents (record s { endpoints = set_name s.endpoints e k.entry.state.endpoint; writers = freed s.writers w }) (record state { host = host; endpoints = set_name state.endpoints e (endpoint_of_writer k.entry); writers = freed state.writers w })) (host_is s state is)
+              (represents-set (record s { writers = freed s.writers w }) (record state { host = s.host; writers = freed state.writers w }) s.host e (endpoint_of_writer k.entry) (represents-writer_freed s state s.host w is));
           same = refl;
         })
 
@@ -125,8 +120,8 @@ module _ (s : SessionState) (e w : ℕ) where
   pub inner-used : (state : State) → is_free s.endpoints e ≡ false → Represents s state → Gives s condition_line (writer_inner_answer state e w)
   unfolding writer_inner_answer
   inner-used state used is =
-      barred-used s state (named state.writers w) (is_free state.endpoints e) (λ x. ok_answer (without_writer state e w x)) is (kept-free endpoint_state state.endpoints s.endpoints (endpoints_kept s state is) e ∙ used)
+      barred-used s state (named state.writers w) (is_free state.endpoints e) (λ x. ok_answer (without_writer state e w x)) is (kept-free _ _ _ (endpoints_kept s state is) e ∙ used)
 
   pub inner-none : (state : State) → named s.writers w ≡ None → Represents s state → Gives s condition_line (writer_inner_answer state e w)
   unfolding writer_inner_answer
-  inner-none state none is = rw (kept-none state_of_writer state.writers s.writers (writers_kept s state is) w none) (barred-gives s state is)
+  inner-none state none is = rw (kept-none _ _ _ (writers_kept s state is) w none) (barred-gives s state is)

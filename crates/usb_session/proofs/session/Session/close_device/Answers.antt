@@ -12,12 +12,12 @@ pub returns-then-close_name-clause-answered : goal.returns-then-close_name-claus
 unfolding close_device_answer name_closed
 returns-then-close_name-clause-answered c =
     close-answers (λ (state : State) n. named state.devices n) device_closed_at c.args.self.now c.close_name.new.self c.number.result c.args.name c.args.line.now c.write_ok.new.out c.write_ok.result true c.number.ensures.value
-    (λ state r. ap (λ (v : SessionState). is_some (named v.devices c.number.result)) (sym r.is) ∙ sym c.close_name.ensures.was_open ∙ c.if-close_name.true)
+    (λ state r. ap (λ (v : SessionState). is_some (named v.devices c.number.result)) (sym r) ∙ sym c.close_name.ensures.was_open ∙ c.if-close_name.true)
     c.close_name.ensures.stands c.write_ok.ensures.text
 
 pub returns-else-close_name-clause-answered : goal.returns-else-close_name-clause-answered
 unfolding close_device_answer name_closed
 returns-else-close_name-clause-answered c =
     close-answers (λ (state : State) n. named state.devices n) device_closed_at c.args.self.now c.close_name.new.self c.number.result c.args.name c.args.line.now c.write_condition.new.out c.write_condition.result false c.number.ensures.value
-    (λ state r. ap (λ (v : SessionState). is_some (named v.devices c.number.result)) (sym r.is) ∙ sym c.close_name.ensures.was_open ∙ c.if-close_name.false)
+    (λ state r. ap (λ (v : SessionState). is_some (named v.devices c.number.result)) (sym r) ∙ sym c.close_name.ensures.was_open ∙ c.if-close_name.false)
     c.close_name.ensures.stands c.write_condition.ensures.text

@@ -1,4 +1,4 @@
-use Rattle.std.proofs.Common.{sym, subst, ◌∙◌}
+use Rattle.std.proofs.Common.{◌≡◌, arith, sym, subst, ◌∙◌}
 use Rattle.usb_session.specs.Ends.{name_closed, devices_closed}
 use Rattle.usb_session_calls.specs.Relation.{Represents}
 use Rattle.usb_session.proofs.EndLemmas.{none-more, below-more}
@@ -14,3 +14,6 @@ loop-name-preserved c = record {
   endpoints = c.close_name.ensures.endpoints ∙ c.loop-name.invariant.endpoints;
   futures = c.close_name.ensures.futures ∙ c.loop-name.invariant.futures;
 }
+
+pub returns-clause-stands : goal.returns-clause-stands
+returns-clause-stands c = λ state r. let all : c.loop-name.name ≡ 64 = omega arith in rw all at (c.loop-name.invariant.stands state r)

@@ -1,4 +1,4 @@
-use Rattle.std.proofs.Common.{sym, subst, ◌∙◌}
+use Rattle.std.proofs.Common.{◌≡◌, arith, sym, subst, ◌∙◌}
 use Rattle.usb_session_calls.specs.Closes.{closed}
 use Rattle.usb_session.specs.Ends.{endpoints_closed}
 use Rattle.usb_session_calls.specs.Relation.{Represents}
@@ -14,3 +14,6 @@ loop-name-preserved c = record {
   readers = c.close_endpoint.ensures.readers ∙ c.loop-name.invariant.readers;
   writers = c.close_endpoint.ensures.writers ∙ c.loop-name.invariant.writers;
 }
+
+pub returns-clause-stands : goal.returns-clause-stands
+returns-clause-stands c = λ state r. let all : c.loop-name.name ≡ 64 = omega arith in rw all at (c.loop-name.invariant.stands state r)

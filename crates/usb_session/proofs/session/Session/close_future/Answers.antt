@@ -12,12 +12,12 @@ pub returns-then-close_future_at-clause-answered : goal.returns-then-close_futur
 unfolding close_future_answer future_closed_under
 returns-then-close_future_at-clause-answered c =
     close-answers (λ (state : State) n. named state.futures n) future_closed_at c.args.self.now c.close_future_at.new.self c.number.result c.args.name c.args.line.now c.write_ok.new.out c.write_ok.result true c.number.ensures.value
-    (λ state r. ap (λ (v : SessionState). is_some (named v.futures c.number.result)) (sym r.is) ∙ sym c.close_future_at.ensures.was_open ∙ c.if-close_future_at.true)
+    (λ state r. ap (λ (v : SessionState). is_some (named v.futures c.number.result)) (sym r) ∙ sym c.close_future_at.ensures.was_open ∙ c.if-close_future_at.true)
     c.close_future_at.ensures.stands c.write_ok.ensures.text
 
 pub returns-else-close_future_at-clause-answered : goal.returns-else-close_future_at-clause-answered
 unfolding close_future_answer future_closed_under
 returns-else-close_future_at-clause-answered c =
     close-answers (λ (state : State) n. named state.futures n) future_closed_at c.args.self.now c.close_future_at.new.self c.number.result c.args.name c.args.line.now c.write_condition.new.out c.write_condition.result false c.number.ensures.value
-    (λ state r. ap (λ (v : SessionState). is_some (named v.futures c.number.result)) (sym r.is) ∙ sym c.close_future_at.ensures.was_open ∙ c.if-close_future_at.false)
+    (λ state r. ap (λ (v : SessionState). is_some (named v.futures c.number.result)) (sym r) ∙ sym c.close_future_at.ensures.was_open ∙ c.if-close_future_at.false)
     c.close_future_at.ensures.stands c.write_condition.ensures.text

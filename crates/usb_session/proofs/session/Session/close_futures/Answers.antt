@@ -1,4 +1,4 @@
-use Rattle.std.proofs.Common.{sym, subst, ◌∙◌}
+use Rattle.std.proofs.Common.{◌≡◌, arith, sym, subst, ◌∙◌}
 use Rattle.usb_session.specs.Ends.{future_closed_under, futures_closed}
 use Rattle.usb_session_calls.specs.Relation.{Represents}
 use Rattle.usb_session.proofs.EndLemmas.{none-more, below-more}
@@ -12,3 +12,6 @@ loop-name-preserved c = record {
   none = none-more c.loop-name.self.futures c.close_future_at.new.self.futures c.loop-name.name c.close_future_at.ensures.freed c.loop-name.invariant.none;
   endpoints = c.close_future_at.ensures.endpoints ∙ c.loop-name.invariant.endpoints;
 }
+
+pub returns-clause-stands : goal.returns-clause-stands
+returns-clause-stands c = λ state r. let all : c.loop-name.name ≡ 64 = omega arith in rw all at (c.loop-name.invariant.stands state r)

@@ -12,12 +12,12 @@ pub returns-then-close_handle-clause-answered : goal.returns-then-close_handle-c
 unfolding close_interface_answer interface_closed
 returns-then-close_handle-clause-answered c =
     close-answers (λ (state : State) n. named state.interfaces n) interface_closed_at c.args.self.now c.close_handle.new.self c.number.result c.args.name c.args.line.now c.write_ok.new.out c.write_ok.result true c.number.ensures.value
-    (λ state r. ap (λ (v : SessionState). is_some (named v.interfaces c.number.result)) (sym r.is) ∙ sym c.close_handle.ensures.was_open ∙ c.if-close_handle.true)
+    (λ state r. ap (λ (v : SessionState). is_some (named v.interfaces c.number.result)) (sym r) ∙ sym c.close_handle.ensures.was_open ∙ c.if-close_handle.true)
     c.close_handle.ensures.stands c.write_ok.ensures.text
 
 pub returns-else-close_handle-clause-answered : goal.returns-else-close_handle-clause-answered
 unfolding close_interface_answer interface_closed
 returns-else-close_handle-clause-answered c =
     close-answers (λ (state : State) n. named state.interfaces n) interface_closed_at c.args.self.now c.close_handle.new.self c.number.result c.args.name c.args.line.now c.write_condition.new.out c.write_condition.result false c.number.ensures.value
-    (λ state r. ap (λ (v : SessionState). is_some (named v.interfaces c.number.result)) (sym r.is) ∙ sym c.close_handle.ensures.was_open ∙ c.if-close_handle.false)
+    (λ state r. ap (λ (v : SessionState). is_some (named v.interfaces c.number.result)) (sym r) ∙ sym c.close_handle.ensures.was_open ∙ c.if-close_handle.false)
     c.close_handle.ensures.stands c.write_condition.ensures.text

@@ -1,6 +1,6 @@
 use Rattle.std.proofs.Common.{true, false, refl, sym, ◌∙◌}
 use Rattle.usb_session_calls.specs.Names.{named}
-use Rattle.usb_session_calls.specs.State.{State, state_of_reader}
+use Rattle.usb_session_calls.specs.State.{State}
 use Rattle.usb_session_calls.specs.Readers.{close_reader_answer, reader_closed, reader_closed_at}
 use Rattle.usb_session_calls.proofs.Called.{readers_kept}
 use Rattle.usb_session.proofs.KeptNames.{kept-some}
@@ -11,12 +11,12 @@ pub returns-then-close_reader_at-clause-answered : goal.returns-then-close_reade
 unfolding close_reader_answer reader_closed
 returns-then-close_reader_at-clause-answered c =
     close-answers (λ (state : State) n. named state.readers n) reader_closed_at c.args.self.now c.close_reader_at.new.self c.args.name c.args.name c.args.line.now c.write_ok.new.out c.write_ok.result true refl
-    (λ state r. kept-some state_of_reader state.readers c.args.self.now.readers (readers_kept c.args.self.now state r) c.args.name true (sym c.close_reader_at.ensures.was_open ∙ c.if-close_reader_at.true))
+    (λ state r. kept-some _ _ _ (readers_kept c.args.self.now state r) c.args.name true (sym c.close_reader_at.ensures.was_open ∙ c.if-close_reader_at.true))
     c.close_reader_at.ensures.stands c.write_ok.ensures.text
 
 pub returns-else-close_reader_at-clause-answered : goal.returns-else-close_reader_at-clause-answered
 unfolding close_reader_answer reader_closed
 returns-else-close_reader_at-clause-answered c =
     close-answers (λ (state : State) n. named state.readers n) reader_closed_at c.args.self.now c.close_reader_at.new.self c.args.name c.args.name c.args.line.now c.write_condition.new.out c.write_condition.result false refl
-    (λ state r. kept-some state_of_reader state.readers c.args.self.now.readers (readers_kept c.args.self.now state r) c.args.name false (sym c.close_reader_at.ensures.was_open ∙ c.if-close_reader_at.false))
+    (λ state r. kept-some _ _ _ (readers_kept c.args.self.now state r) c.args.name false (sym c.close_reader_at.ensures.was_open ∙ c.if-close_reader_at.false))
     c.close_reader_at.ensures.stands c.write_condition.ensures.text

@@ -1,6 +1,6 @@
 use Rattle.std.proofs.Common.{true, false, refl, sym, ◌∙◌}
 use Rattle.usb_session_calls.specs.Names.{named}
-use Rattle.usb_session_calls.specs.State.{State, state_of_writer}
+use Rattle.usb_session_calls.specs.State.{State}
 use Rattle.usb_session_calls.specs.Writers.{close_writer_answer, writer_closed, writer_closed_at}
 use Rattle.usb_session_calls.proofs.Called.{writers_kept}
 use Rattle.usb_session.proofs.KeptNames.{kept-some}
@@ -11,12 +11,12 @@ pub returns-then-close_writer_at-clause-answered : goal.returns-then-close_write
 unfolding close_writer_answer writer_closed
 returns-then-close_writer_at-clause-answered c =
     close-answers (λ (state : State) n. named state.writers n) writer_closed_at c.args.self.now c.close_writer_at.new.self c.args.name c.args.name c.args.line.now c.write_ok.new.out c.write_ok.result true refl
-    (λ state r. kept-some state_of_writer state.writers c.args.self.now.writers (writers_kept c.args.self.now state r) c.args.name true (sym c.close_writer_at.ensures.was_open ∙ c.if-close_writer_at.true))
+    (λ state r. kept-some _ _ _ (writers_kept c.args.self.now state r) c.args.name true (sym c.close_writer_at.ensures.was_open ∙ c.if-close_writer_at.true))
     c.close_writer_at.ensures.stands c.write_ok.ensures.text
 
 pub returns-else-close_writer_at-clause-answered : goal.returns-else-close_writer_at-clause-answered
 unfolding close_writer_answer writer_closed
 returns-else-close_writer_at-clause-answered c =
     close-answers (λ (state : State) n. named state.writers n) writer_closed_at c.args.self.now c.close_writer_at.new.self c.args.name c.args.name c.args.line.now c.write_condition.new.out c.write_condition.result false refl
-    (λ state r. kept-some state_of_writer state.writers c.args.self.now.writers (writers_kept c.args.self.now state r) c.args.name false (sym c.close_writer_at.ensures.was_open ∙ c.if-close_writer_at.false))
+    (λ state r. kept-some _ _ _ (writers_kept c.args.self.now state r) c.args.name false (sym c.close_writer_at.ensures.was_open ∙ c.if-close_writer_at.false))
     c.close_writer_at.ensures.stands c.write_condition.ensures.text

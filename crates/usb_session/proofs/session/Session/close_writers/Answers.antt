@@ -22,3 +22,6 @@ loop-number-preserved c =
 
 pub unreachable-requires : goal.unreachable-requires
 unreachable-requires c = absurd (no_name c.loop-number.number (omega (arith, c.loop-number-test.true)) (sym c.new.ensures.value ∙ c.in_default.is))
+
+pub returns-clause-stands : goal.returns-clause-stands
+returns-clause-stands c = λ state r. let all : c.loop-number.number ≡ 64 = omega arith in rw all at (c.loop-number.invariant.stands state r)

@@ -3,7 +3,7 @@ use Rattle.usb_device_host.specs.HostState.{HostState}
 use Rattle.usb_device_host.specs.HostBus.{owner_at}
 use Rattle.usb_device_host.specs.Finishes.{HasEnds, KeepsNothing}
 use Rattle.usb_session_calls.specs.Names.{named}
-use Rattle.usb_session_calls.specs.State.{State, endpoint_state}
+use Rattle.usb_session_calls.specs.State.{State, Endpoint}
 use Rattle.usb_session.specs.Ends.{readers_closed, writers_closed, endpoints_closed, futures_closed, interfaces_closed, devices_closed, all_closed}
 use Rattle.usb_session_calls.specs.Relation.{Represents}
 use Rattle.usb_session.specs.Accounts.{Accounted}
@@ -23,8 +23,8 @@ end-ended : (s : SessionState) (before now : HostState) (state : State) → befo
 unfolding all_closed
 end-ended s before now state same none gone r a ends =
     let last = all_closed state in
-    let closed_all : (e : EndpointName) → endpoint_under last e ≡ None = λ e. unmapped endpoint_state (endpoint_under last e) (sym (under_kept s last e r) ∙ none e) in
-    let all_gone : (n : ℕ) → named last.futures n ≡ None = λ n. ap (λ (v : SessionState). named v.futures n) (sym r.is) ∙ gone n in
+    let closed_all : (e : EndpointName) → endpoint_under last e ≡ None = λ e. unmapped (λ (x : Endpoint). x.state) (endpoint_under last e) (sym (under_kept s last e r) ∙ none e) in
+    let all_gone : (n : ℕ) → named last.futures n ≡ None = λ n. ap (λ (v : SessionState). named v.futures n) (sym r) ∙ gone n in
     ends (λ t. ap (λ (h : HostState). owner_at h.tickets t) (same ∙ host_is s last r) ∙ accounted-none last (accounted-all_closed state a) closed_all all_gone t)
 
 pub drop_names-requires : goal.drop_names-requires

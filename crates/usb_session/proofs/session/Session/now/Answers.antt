@@ -11,6 +11,6 @@ returns c =
       answered = answers-same _ _ _ c.self.view_is c.write_now.ensures.text
           (λ state r. record {
             state = r;
-            same = ap now_line (ap (λ (v : SessionState). v.host.kernel.clock) (sym r.is) ∙ ap (λ (k : KernelState). k.clock) (sym c.kernel.ensures.kernel) ∙ sym c.now.ensures.clock);
+            same = ap now_line (ap (λ (v : SessionState). v.host.kernel.clock) (sym r) ∙ ap (λ (k : KernelState). k.clock) (sym c.kernel.ensures.kernel) ∙ sym c.now.ensures.clock);
           });
     }

@@ -1,7 +1,7 @@
 use Rattle.std.proofs.Common.{◌≡◌, refl, sym, ◌∙◌, ap, subst, Some}
 use Rattle.std.specs.Option.{option_map}
 use Rattle.usb_session_calls.specs.EndpointNames.{OfWriter}
-use Rattle.usb_session_calls.specs.State.{State, Writer, state_of_writer}
+use Rattle.usb_session_calls.specs.State.{State}
 use Rattle.usb_session_calls.specs.SessionState.{SessionState, IsSound}
 use Rattle.usb_session.specs.SessionFacts.{made_of}
 use Rattle.usb_session_calls.specs.CalledWriters.{writer_called, on_writer}
@@ -30,7 +30,7 @@ returns-in_default-clause-answered c =
     let s : SessionState = record (made_of c.self.inside) { host = c.lend_steps.new.self } in
     answers-along _ (made_of c.self.inside) _ c.args.steps _ _ _ c.args.line.now c.write_condition.new.out c.write_condition.result (λ z. on_writer z c.args.name c.args.call) c.self.view_is
     (lent_is c.self.inside.host _ _ _ c.lend_steps.ensures.steps c.into_vec.ensures.value) refl c.rest.ensures.rest
-    (answers-none (λ (state : State). state.writers) (λ (z : SessionState). z.writers) state_of_writer writers_kept s (record s { writers = c.take_at.new.names.items }) _ c.args.name c.number-number.ensures.value
+    (answers-none (λ (state : State). state.writers) (λ (z : SessionState). z.writers) _ writers_kept s (record s { writers = c.take_at.new.names.items }) _ c.args.name c.number-number.ensures.value
     c.args.line.now c.write_condition.new.out c.write_condition.result (λ state x. writer_called c.args.call state c.args.name x)
     (sym c.take_at.ensures.taken ∙ c.in_default.is) (ap (λ l. record s { writers = l }) (same c)) c.write_condition.ensures.text)
 
