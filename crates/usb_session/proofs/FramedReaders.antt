@@ -5,7 +5,7 @@ use Rattle.usb_kernel.specs.declared.event.Event.{Event}
 use Rattle.usb_kernel.specs.Legal.{IsLawful}
 use Rattle.usb_device_endpoint.specs.EndpointState.{EndpointState}
 use Rattle.usb_device_host.specs.HostState.{HostState}
-use Rattle.usb_io.specs.Readers.{ReaderState, with_read, without_end, is_end}
+use Rattle.usb_io.specs.Readers.{with_read, without_end, is_end}
 use Rattle.usb_io.specs.Reads.{Reading}
 use Rattle.usb_io.specs.Streams.{Mark, Byte, End}
 use Rattle.usb_io.specs.Following.{History, no_history, Follows}
