@@ -35,50 +35,42 @@ use Rattle.usb_session_calls.proofs.Answering.{Gives, barred-gives}
 pub list-gives : (s : SessionState) (state : State) (found : List DeviceFacts) → devices s.tree ≡ Ok found → Represents s state → Gives s (devices_line found) (list_answer state)
 unfolding list_answer
 list-gives s state found is r =
-    let here : devices state.tree ≡ Ok found = ap (λ (v : SessionState). devices v.tree) (sym r) ∙ is in
-    rw here (record { state = r; same = refl })
+    rw (rw r at is) (record { state = r; same = refl })
 
 pub list-refused : (s : SessionState) (state : State) (error : ErrorState) → devices s.tree ≡ Err error → Represents s state → Gives s (error_line error) (list_answer state)
 unfolding list_answer
 list-refused s state error is r =
-    let here : devices state.tree ≡ Err error = ap (λ (v : SessionState). devices v.tree) (sym r) ∙ is in
-    rw here (record { state = r; same = refl })
+    rw (rw r at is) (record { state = r; same = refl })
 
 pub buses-gives : (s : SessionState) (state : State) (found : List BusFacts) → buses s.tree ≡ Ok found → Represents s state → Gives s (buses_line found) (buses_answer state)
 unfolding buses_answer
 buses-gives s state found is r =
-    let here : buses state.tree ≡ Ok found = ap (λ (v : SessionState). buses v.tree) (sym r) ∙ is in
-    rw here (record { state = r; same = refl })
+    rw (rw r at is) (record { state = r; same = refl })
 
 pub buses-refused : (s : SessionState) (state : State) (error : ErrorState) → buses s.tree ≡ Err error → Represents s state → Gives s (error_line error) (buses_answer state)
 unfolding buses_answer
 buses-refused s state error is r =
-    let here : buses state.tree ≡ Err error = ap (λ (v : SessionState). buses v.tree) (sym r) ∙ is in
-    rw here (record { state = r; same = refl })
+    rw (rw r at is) (record { state = r; same = refl })
 
 pub probe-gives : (s : SessionState) (state : State) (path : List ℕ) (device : DeviceFacts) → probe s.tree path ≡ Ok device → Represents s state → Gives s (info_line device) (probe_answer state path)
 unfolding probe_answer
 probe-gives s state path device is r =
-    let here : probe state.tree path ≡ Ok device = ap (λ (v : SessionState). probe v.tree path) (sym r) ∙ is in
-    rw here (record { state = r; same = refl })
+    rw (rw r at is) (record { state = r; same = refl })
 
 pub probe-refused : (s : SessionState) (state : State) (path : List ℕ) (error : SysfsError) → probe s.tree path ≡ Err error → Represents s state → Gives s (sysfs_line error) (probe_answer state path)
 unfolding probe_answer
 probe-refused s state path error is r =
-    let here : probe state.tree path ≡ Err error = ap (λ (v : SessionState). probe v.tree path) (sym r) ∙ is in
-    rw here (record { state = r; same = refl })
+    rw (rw r at is) (record { state = r; same = refl })
 
 pub match-gives : (s : SessionState) (state : State) (path : List ℕ) (selector : List Criterion) (is_match : Bool) → matched s.tree path selector ≡ Ok is_match → Represents s state → Gives s (match_line is_match) (match_answer state path selector)
 unfolding match_answer
 match-gives s state path selector is_match is r =
-    let here : matched state.tree path selector ≡ Ok is_match = ap (λ (v : SessionState). matched v.tree path selector) (sym r) ∙ is in
-    rw here (record { state = r; same = refl })
+    rw (rw r at is) (record { state = r; same = refl })
 
 pub match-refused : (s : SessionState) (state : State) (path : List ℕ) (selector : List Criterion) (error : SysfsError) → matched s.tree path selector ≡ Err error → Represents s state → Gives s (sysfs_line error) (match_answer state path selector)
 unfolding match_answer
 match-refused s state path selector error is r =
-    let here : matched state.tree path selector ≡ Err error = ap (λ (v : SessionState). matched v.tree path selector) (sym r) ∙ is in
-    rw here (record { state = r; same = refl })
+    rw (rw r at is) (record { state = r; same = refl })
 
 -- one packet is looked at
 pub hotplug-gives : (s : SessionState) (state : State) (after : List UdevPacket) (event : Poll HotplugEvent) → event ≡ hotplug_polled s.tree s.packets → after ≡ drop 1 s.packets → Represents s state → Gives (record s { packets = after }) (hotplug_line event) (hotplug_answer state)
@@ -139,5 +131,4 @@ open_path-refused s state d path error free is r =
 pub open_path-barred : (s : SessionState) (state : State) (d : ℕ) (path : List ℕ) → is_free s.devices d ≡ false → Represents s state → Gives s condition_line (open_path_answer state d path)
 unfolding open_path_answer
 open_path-barred s state d path used r =
-    let here : is_free state.devices d ≡ false = ap (λ (v : SessionState). is_free v.devices d) (sym r) ∙ used in
-    rw here (barred-gives s state r)
+    rw (rw r at used) (barred-gives s state r)
