@@ -51,7 +51,7 @@ pub(crate) struct EndpointRow {
 }
 
 /// The claimed interfaces and their endpoints, each by its key. An endpoint that lives no more goes,
-/// and then an interface that has no owner any more, and their memory with them.
+/// and then an interface that has no owner any more. Of an endpoint 8 bytes stay, for its number.
 #[derive(Drop)]
 pub(crate) struct Owners {
     claims: Registry<Claim>,

@@ -7,7 +7,7 @@ use Rattle.std.proofs.lemmas.Option.{none-some, same_Some}
 use Rattle.std.proofs.lemmas.List.Sums.{sum_by-cons, sum_by-append}
 use Rattle.slab.specs.Slab.{Updates, Slab, HasRoomFor, get, with_value}
 use Rattle.slab.proofs.SlabLemmas.{Updates-with_value}
-use Rattle.usb_device_tables.specs.declared.registry.Entry.{Entry}
+use Rattle.usb_device_tables.specs.declared.entry.Entry.{Entry}
 use Rattle.usb_device_tables.specs.Entries.{find_serial, history, IsAt, HasSerialAt, IsSound}
 use Rattle.usb_device_tables.specs.History.{RegistryState, value_at, live_count}
 use Rattle.usb_device_tables.proofs.SerialLemmas.{cases_Option, value-below, values-set, values-same, slice_get-below, count-some_more}
@@ -91,7 +91,7 @@ module _ {T : Type 0} where
       ]
 
   -- the value with a serial number
-  value-history : (slots : List (Option (Entry T))) (next serial : ℕ) → IsSound slots next → value_at (history slots next) serial ≡ find_serial slots serial
+  pub value-history : (slots : List (Option (Entry T))) (next serial : ℕ) → IsSound slots next → value_at (history slots next) serial ≡ find_serial slots serial
   value-history slots next serial sound = value-below (find_serial slots) next serial (λ s v found. let f = found-entry slots s v found in omega (arith, f.3, sound.below f.0 f.1 f.2))
 
   -- the value at the place of a serial number
@@ -108,7 +108,7 @@ module _ {T : Type 0} where
   absent-set slots next serial none = values-set (find_serial slots) (find_serial slots) next serial None (found-none slots serial none) (λ k other. refl)
 
   -- what is at a place after a change of one place
-  changed : (old new : Slab (Entry T)) (place : ℕ) (slot : Option (Entry T)) (k : ℕ) (e : Entry T) → Updates old new place slot → IsAt new.slots k e → ((k ≡ place) × (slot ≡ Some e)) ⊎ ((k ≢ place) × IsAt old.slots k e)
+  pub changed : (old new : Slab (Entry T)) (place : ℕ) (slot : Option (Entry T)) (k : ℕ) (e : Entry T) → Updates old new place slot → IsAt new.slots k e → ((k ≡ place) × (slot ≡ Some e)) ⊎ ((k ≢ place) × IsAt old.slots k e)
   changed old new place slot k e updates at =
       elim (cases_eq k place) [
         | inl same ↦ inl (same, sym updates.changed ∙ sym (ap (get new) same) ∙ at)

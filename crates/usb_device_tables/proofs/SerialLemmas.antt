@@ -6,26 +6,27 @@ use Rattle.std.proofs.lemmas.List.{set-append_left}
 use Rattle.std.proofs.lemmas.Option.{none-some, same_Some, slice_get_past}
 use Rattle.std.proofs.lemmas.List.Sums.{sum_by-cons}
 use Rattle.std.proofs.Math.Seq.{set-append_seam}
-use Rattle.usb_device_tables.specs.History.{value_at, values_below, IsBelow}
+use Rattle.usb_device_tables.specs.History.{value_at, values_below}
 
 -- nothing, or something
 pub cases_Option : {X : Type 0} (o : Option X) → (o ≡ None) ⊎ ((x : X) × (o ≡ Some x))
 cases_Option None = inl refl
 cases_Option (Some x) = inr (x, refl)
 
+-- an element more at the end of a list
+pub before-append : {X : Type 0} (xs : List X) (x : X) (k n : ℕ) → length xs ≡ n → k < n → slice_get (xs ++ x ∷ []) k ≡ slice_get xs k
+before-append [] x k n len below = absurd (omega (arith, len))
+before-append (y ∷ ys) x zero n len below = refl
+before-append (y ∷ ys) x (suc k) n len below = before-append ys x k (length ys) refl (omega (arith, len))
+
+pub at-end : {X : Type 0} (xs : List X) (x : X) → slice_get (xs ++ x ∷ []) (length xs) ≡ Some x
+at-end [] x = refl
+at-end (y ∷ ys) x = at-end ys x
+
 module _ {T : Type 0} where
   pub length-below : (f : ℕ → Option T) (n : ℕ) → length (values_below f n) ≡ n
   length-below f zero = refl
   length-below f (suc n) = length-append (values_below f n) (f n ∷ []) ∙ omega (arith, length-below f n)
-
-  before-append : (xs : List (Option T)) (x : Option T) (k n : ℕ) → length xs ≡ n → k < n → slice_get (xs ++ x ∷ []) k ≡ slice_get xs k
-  before-append [] x k n len below = absurd (omega (arith, len))
-  before-append (y ∷ ys) x zero n len below = refl
-  before-append (y ∷ ys) x (suc k) n len below = before-append ys x k (length ys) refl (omega (arith, len))
-
-  at-end : (xs : List (Option T)) (x : Option T) → slice_get (xs ++ x ∷ []) (length xs) ≡ Some x
-  at-end [] x = refl
-  at-end (y ∷ ys) x = at-end ys x
 
   pub slice_get-below : (f : ℕ → Option T) (n k : ℕ) → k < n → slice_get (values_below f n) k ≡ Some (f k)
   slice_get-below f zero k below = absurd (omega arith)
@@ -37,6 +38,10 @@ module _ {T : Type 0} where
             rw same (rw len at end)
         | inr other ↦ before-append (values_below f n) (f n) k n (length-below f n) (omega (arith, other)) ∙ slice_get-below f n k (omega (arith, other))
       ]
+
+  -- no serial number from the next on has a value
+  abbrev pub IsBelow : (ℕ → Option T) → ℕ → Type 0
+  IsBelow at next = (serial : ℕ) (value : T) → at serial ≡ Some value → serial < next
 
   pub value-below : (f : ℕ → Option T) (next serial : ℕ) → IsBelow f next → value_at (values_below f next) serial ≡ f serial
   value-below f next serial below =

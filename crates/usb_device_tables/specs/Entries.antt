@@ -1,7 +1,7 @@
--- The entries of a registry, and the values that they tell.
-use Rattle.std.specs.Prelude.{ℕ, ◌≡◌, ◌<◌, ◌==◌, List, [], ◌∷◌, Option, Some, None, slice_index_or, if◌then◌else◌}
+-- The entries of a slab, and the values that they tell.
+use Rattle.std.specs.Prelude.{ℕ, ◌≡◌, ◌<◌, ◌==◌, List, [], ◌∷◌, Option, Some, None, slice_get, slice_index_or, if◌then◌else◌}
 use Rattle.usb_device_tables.specs.History.{values_below}
-use Rattle.usb_device_tables.specs.declared.registry.Entry.{Entry}
+use Rattle.usb_device_tables.specs.declared.entry.Entry.{Entry}
 
 module _ {T : Type 0} where
   -- the value of the entry with a serial number
@@ -28,3 +28,9 @@ module _ {T : Type 0} where
   pub record IsSound (slots : List (Option (Entry T))) (next : ℕ) : Type 0 where
     pub below : (place : ℕ) (entry : Entry T) → IsAt slots place entry → entry.serial < next
     pub apart : (j k : ℕ) (e f : Entry T) → IsAt slots j e → IsAt slots k f → e.serial ≡ f.serial → j ≡ k
+
+  -- each entry is at the place that is listed for its serial number
+  abbrev pub IsPlaced : List (Option (Entry T)) → List ℕ → Type 0
+  IsPlaced slots places =
+      (place : ℕ) (entry : Entry T) → IsAt slots place entry
+      → slice_get places entry.serial ≡ Some place

@@ -1,5 +1,5 @@
 -- What a registry is to its users: for each serial number the value, or nothing once it is gone.
-use Rattle.std.specs.Prelude.{ℕ, zero, suc, ◌≡◌, ◌<◌, List, [], ◌∷◌, ◌++◌, Option, Some, is_some, slice_get, option_and_then, refl}
+use Rattle.std.specs.Prelude.{ℕ, zero, suc, List, [], ◌∷◌, ◌++◌, Option, is_some, slice_get, option_and_then, refl}
 use Rattle.std.specs.List.{count_by}
 use Rattle.std.specs.Coded.{Coded, code_by, coded×, coded_ℕ, coded_list, coded_option}
 
@@ -31,7 +31,3 @@ module _ {T : Type 0} where
   abbrev pub values_below : (ℕ → Option T) → ℕ → List (Option T)
   values_below at zero = []
   values_below at (suc n) = values_below at n ++ at n ∷ []
-
-  -- no serial number from the next on has a value
-  abbrev pub IsBelow : (ℕ → Option T) → ℕ → Type 0
-  IsBelow at next = (serial : ℕ) (value : T) → at serial ≡ Some value → serial < next

@@ -1,17 +1,15 @@
 //! A registry of values.
 
 ghost use Rattle.std.specs.Prelude.{◌≡◌, ◌↔◌, IsTrue, ◌+◌, ◌^◌, ◌<◌, ◌≤◌, ◌++◌, ◌∷◌, [], ℕ, length, set, Some, None, OnOk, OnErr, IfOk, IfErr, IfSome, IfNone, IsOk, IsSome, is_some};
-ghost use Rattle.std.specs.Option.{option_copied, option_copied_mut, option_map};
+ghost use Rattle.std.specs.Option.{option_copied, option_copied_mut};
 ghost use Rattle.std.specs.Borrow.{sem};
-ghost use Rattle.slab.specs.Slab.{get, slab_len, Updates};
 ghost use Rattle.usb_device_tables.specs.History.{value_at, live_count};
 ghost use Rattle.usb_device_tables.specs.Entries.{HasSerialAt};
-ghost use Rattle.usb_device_tables.specs.declared.registry.Entry.{Entry};
 
+use crate::entry::{Entry, take_at_place, value_at_place, write_at_place};
 use slab::Slab;
 use std::alloc::{AllocError, AllocFailed, Global};
 use std::marker::Model;
-use std::mem;
 
 /// The name of a value: the number of values that were put in before it, and the place at which it
 /// is looked for first. No answer depends on the place.
@@ -20,13 +18,6 @@ pub struct Key {
     /// The number of values that were put in before.
     pub serial: u64,
     place: usize,
-}
-
-/// A value with its serial number.
-#[derive(Drop)]
-struct Entry<T> {
-    serial: u64,
-    value: T,
 }
 
 /// Values, each named by the number of values that were put in before it. A place is used again; a
@@ -72,55 +63,6 @@ fn find_place<T>(entries: &Slab<Entry<T>>, key: Key) -> Option<usize>
         }
     }
     None
-}
-
-/// The value at a place.
-fn value_at_place<T>(entries: &Slab<Entry<T>>, place: usize) -> Option<&T>
-    ensures value { option_copied result
-        ≡ option_map (λ (e : Entry T). e.value) (get entries.now place) }
-{
-    match entries.get(place) {
-        Some(entry) => Some(&entry.value),
-        None => None,
-    }
-}
-
-/// Takes the value at a place out.
-fn take_at_place<T>(entries: &mut Slab<Entry<T>>, place: usize) -> Option<T>
-    ensures value { result ≡ option_map (λ (e : Entry T). e.value) (get entries.old place) }
-    ensures updates { Updates entries.old entries.new place None }
-    ensures capacity { entries.new.capacity ≡ entries.old.capacity }
-{
-    match entries.try_remove(place) {
-        Some(entry) => Some(into_value(entry)),
-        None => None,
-    }
-}
-
-/// Writes another value at a place. The value that was there comes out; where none was there, the
-/// new one comes back, and nothing has changed.
-fn write_at_place<T>(entries: &mut Slab<Entry<T>>, place: usize, value: T) -> Result<T, T>
-    ensures was { IfOk result
-        (λ was. option_map (λ (e : Entry T). e.value) (get entries.old place) ≡ Some was) }
-    ensures back { IfErr result (λ back. back ≡ value) }
-    ensures err { OnErr result (entries.new ≡ entries.old) }
-    ensures updates { (e : Entry T) → get entries.old place ≡ Some e
-        → IsOk result
-        × Updates entries.old entries.new place (Some (record e { value = value })) }
-    ensures capacity { entries.new.capacity ≡ entries.old.capacity }
-{
-    match entries.get_mut(place) {
-        Some(entry) => Ok(mem::replace(&mut entry.value, value)),
-        None => Err(value),
-    }
-}
-
-/// The value of an entry.
-fn into_value<T>(entry: Entry<T>) -> T
-    ensures value { result ≡ entry.value }
-{
-    let Entry { serial: _, value } = entry;
-    value
 }
 
 impl<T> Registry<T> {

@@ -1,5 +1,5 @@
 -- What endpoints and futures hold stays accounted for over each answer.
-use Rattle.std.proofs.Common.{◌≡◌, ◌≢◌, ℕ, ◌≤◌, ◌+◌, suc, zero, arith, List, [], ◌∷◌, ◌++◌, length, drop, Option, Some, None, true, refl, ap, sym, ◌∙◌, subst, slice_get, inl, inr, ◌⊎◌}
+use Rattle.std.proofs.Common.{◌≡◌, ◌≢◌, ℕ, ◌+◌, suc, zero, List, [], ◌∷◌, ◌++◌, drop, Option, Some, None, true, refl, ap, sym, ◌∙◌, subst, inl, inr, ◌⊎◌}
 use Rattle.std.specs.List.{Contains}
 use Rattle.std.proofs.lemmas.Bool.{cases_eq}
 use Rattle.std.proofs.lemmas.List.Elements.{Contains-append_left, Contains-push}
@@ -19,10 +19,10 @@ use Rattle.usb_device_host.proofs.StartedLemmas.{Parts, AddsTaken, started-count
 use Rattle.usb_device.specs.Futures.{FutureState, fresh_future}
 use Rattle.usb_session_calls.specs.Names.{named, is_free, freed, set_name}
 use Rattle.usb_session_calls.specs.EndpointNames.{EndpointName, Own, OfReader, OfWriter, endpoint_under}
-use Rattle.usb_session_calls.specs.State.{State, Endpoint, endpoint_state, pending, tickets_of, with_host}
+use Rattle.usb_session_calls.specs.State.{State, Endpoint, tickets_of, with_host}
 use Rattle.usb_session_calls.specs.Answer.{Answer}
 use Rattle.usb_session_calls.specs.Submits.{with_submission}
-use Rattle.usb_session_calls.specs.Polls.{one_taken}
+use Rattle.usb_session_calls.specs.Polls.{front_taken}
 use Rattle.usb_session_calls.specs.Closes.{closed}
 use Rattle.usb_session_calls.specs.Readers.{reader_closed}
 use Rattle.usb_session_calls.specs.Writers.{writer_closed}
@@ -34,7 +34,7 @@ use Rattle.usb_session.specs.Accounts.{Covered, IsAwaited, Accounted, StartIsAcc
 use Rattle.usb_session.specs.Served.{ClosedEndpoint}
 use Rattle.usb_session_calls.proofs.NameLemmas.{free-none, named-freed_other, named-set, named-set_other}
 use Rattle.usb_session_calls.proofs.EndpointNameLemmas.{Changed, cases_name}
-use Rattle.usb_session.proofs.Does.{Quiet, Changes, MovesTo, Closing, ControlMove, Acts, SameTickets, without_future_of, at-host, goes, opens, submits, fits, reads, starts, controls, frees, ends, takes, closes, moves}
+use Rattle.usb_session.proofs.Does.{Quiet, Changes, MovesTo, Closing, ControlMove, Acts, SameTickets, without_future_of, at-host, goes, opens, submits, reads, starts, controls, frees, ends, takes, closes, moves}
 use Rattle.usb_session.proofs.DeviceLines.{handles-quiet}
 use Rattle.usb_session.proofs.EndpointLines.{closed-does}
 use Rattle.usb_session.proofs.ControlLines.{future_closed_under-does}
@@ -82,18 +82,18 @@ accounted-open e x free changes a =
 covered-entry : {opened : EndpointName → Option Endpoint} {t key : ℕ} (c : Covered opened t key) (e : EndpointName) (h : Endpoint) → opened e ≡ Some h → c.name ≡ e → c.entry ≡ h
 covered-entry {opened} c e h here same = same_Some c.entry h (sym c.at ∙ ap opened same ∙ here)
 
-covered-now : {old new : EndpointName → Option Endpoint} {t key : ℕ} (c : Covered old t key) (e d : EndpointName) (h g : Endpoint) → old e ≡ Some h → new d ≡ Some g → g.key ≡ h.key → (Contains (pending h) t → Contains (pending g) t) → c.name ≡ e → Covered new t key
+covered-now : {old new : EndpointName → Option Endpoint} {t key : ℕ} (c : Covered old t key) (e d : EndpointName) (h g : Endpoint) → old e ≡ Some h → new d ≡ Some g → g.state.key ≡ h.state.key → (Contains h.state.pending t → Contains g.state.pending t) → c.name ≡ e → Covered new t key
 covered-now {t = t} c e d h g here now same_key stays same =
     let entry = covered-entry c e h here same in
     record {
       name = d;
       entry = g;
       at = now;
-      key_is = same_key ∙ sym (ap (λ (x : Endpoint). x.key) entry) ∙ c.key_is;
-      in_pending = stays (subst (λ (x : Endpoint). Contains (pending x) t) entry c.in_pending);
+      key_is = same_key ∙ sym (ap (λ (x : Endpoint). x.state.key) entry) ∙ c.key_is;
+      in_pending = stays (subst (λ (x : Endpoint). Contains x.state.pending t) entry c.in_pending);
     }
 
-covered-change : {old new : EndpointName → Option Endpoint} {t key : ℕ} (e : EndpointName) (h g : Endpoint) → old e ≡ Some h → Changed old new e (Some g) → g.key ≡ h.key → (Contains (pending h) t → Contains (pending g) t) → Covered old t key → Covered new t key
+covered-change : {old new : EndpointName → Option Endpoint} {t key : ℕ} (e : EndpointName) (h g : Endpoint) → old e ≡ Some h → Changed old new e (Some g) → g.state.key ≡ h.state.key → (Contains h.state.pending t → Contains g.state.pending t) → Covered old t key → Covered new t key
 covered-change e h g here changed same_key stays c =
     elim (cases_name c.name e) [
       | inl same ↦ covered-now c e e h g here changed.here same_key stays same
@@ -101,70 +101,54 @@ covered-change e h g here changed same_key stays c =
     ]
 
 -- a ticket more at the end
-drop-push : {X : Type 0} (n : ℕ) (xs : List X) (x : X) → n ≤ length xs → drop n (xs ++ x ∷ []) ≡ drop n xs ++ x ∷ []
-drop-push zero xs x within = refl
-drop-push (suc n) [] x within = absurd (omega arith)
-drop-push (suc n) (y ∷ ys) x within = drop-push n ys x (omega arith)
-
-pushed-old : (n : ℕ) (xs : List ℕ) (x y : ℕ) → n ≤ length xs → Contains (drop n xs) y → Contains (drop n (xs ++ x ∷ [])) y
-pushed-old n xs x y within there = subst (λ l. Contains l y) (sym (drop-push n xs x within)) (Contains-append_left (drop n xs) (x ∷ []) y there)
-
-pushed-new : (n : ℕ) (xs : List ℕ) (x : ℕ) → n ≤ length xs → Contains (drop n (xs ++ x ∷ [])) x
-pushed-new n xs x within = subst (λ l. Contains l x) (sym (drop-push n xs x within)) (Contains-push (drop n xs) x)
-
-accounted-submit : {state next : State} (e : EndpointName) (b : BufferState) (h : Endpoint) → endpoint_under state e ≡ Some h → h.taken ≤ length h.tickets → Changes state next (entered host_calls state.host (endpoint_state h) b) e (Some (with_submission (tickets_of state) h)) → Accounted state → Accounted next
-accounted-submit {state} e b h here few changes a =
+accounted-submit : {state next : State} (e : EndpointName) (b : BufferState) (h : Endpoint) → endpoint_under state e ≡ Some h → Changes state next (entered host_calls state.host h.state b) e (Some (with_submission (tickets_of state) h)) → Accounted state → Accounted next
+accounted-submit {state} e b h here changes a =
     let n = tickets_of state in
-    let one = entered-count state.host (endpoint_state h) b in
+    let one = entered-count state.host h.state b in
     at-host Accounted changes (record {
       held = λ t key own.
-          elim (entered-held state.host (endpoint_state h) b t key own) [
+          elim (entered-held state.host h.state b t key own) [
             | inl new ↦ inl record {
               name = e;
               entry = with_submission n h;
               at = changes.endpoints.here;
               key_is = sym new.1;
-              in_pending = subst (λ (u : ℕ). Contains (drop h.taken (h.tickets ++ n ∷ [])) u) (sym (new.0 ∙ a.count)) (pushed-new h.taken h.tickets n few);
+              in_pending = subst (λ (u : ℕ). Contains (h.state.pending ++ n ∷ []) u) (sym (new.0 ∙ a.count)) (Contains-push h.state.pending n);
             }
-            | inr old ↦ still-awaited changes.futures (covered-change e h (with_submission n h) here changes.endpoints refl (pushed-old h.taken h.tickets n t few)) (a.held t key old)
+            | inr old ↦ still-awaited changes.futures (covered-change e h (with_submission n h) here changes.endpoints refl (Contains-append_left h.state.pending (n ∷ []) t)) (a.held t key old)
           ];
       count = one.count ∙ ap (λ m. m + 1) a.count ∙ sym one.past;
     })
 
--- the ticket at the place of those that were taken is taken
-behind : (n : ℕ) (xs : List ℕ) (t u : ℕ) → slice_get xs n ≡ Some t → u ≢ t → Contains (drop n xs) u → Contains (drop (suc n) xs) u
-behind n [] t u at apart there = absurd (none-some t at)
-behind zero (x ∷ xs) t u at apart there = Contains-behind x xs u (λ same. apart (sym same ∙ same_Some x t at)) there
-behind (suc n) (x ∷ xs) t u at apart there = behind n xs t u at apart there
+-- the oldest pending ticket is taken
+front-stays : (pending : List ℕ) (t : ℕ) (ts : List ℕ) (u : ℕ) → pending ≡ t ∷ ts → u ≢ t → Contains pending u → Contains (drop 1 pending) u
+front-stays pending t ts u front apart there =
+    subst (λ us. Contains (drop 1 us) u) (sym front) (Contains-behind t ts u (λ same. apart (sym same)) (subst (λ us. Contains us u) front there))
 
-one_taken-stays : (h : Endpoint) (t u : ℕ) → slice_get h.tickets h.taken ≡ Some t → u ≢ t → Contains (pending h) u → Contains (pending (one_taken h)) u
-one_taken-stays h t u front apart there =
-    let more : h.taken + 1 ≡ suc h.taken = omega arith in rw more (behind h.taken h.tickets t u front apart there)
-
-accounted-take : {state next : State} (e : EndpointName) (t : ℕ) (h : Endpoint) → endpoint_under state e ≡ Some h → slice_get h.tickets h.taken ≡ Some t → Changes state next (host_taken state.host t) e (Some (one_taken h)) → Accounted state → Accounted next
-accounted-take {state} e t h here front changes a =
+accounted-take : {state next : State} (e : EndpointName) (t : ℕ) (ts : List ℕ) (h : Endpoint) → endpoint_under state e ≡ Some h → h.state.pending ≡ t ∷ ts → Changes state next (host_taken state.host t) e (Some (front_taken t h)) → Accounted state → Accounted next
+accounted-take {state} e t ts h here front changes a =
     let keeps = taken-count state.host t in
     at-host Accounted changes (record {
       held = λ u key own.
           let was = taken-held state.host t u key own in
-          still-awaited changes.futures (covered-change e h (one_taken h) here changes.endpoints refl (one_taken-stays h t u front was.0)) (a.held u key was.1);
+          still-awaited changes.futures (covered-change e h (front_taken t h) here changes.endpoints refl (front-stays h.state.pending t ts u front was.0)) (a.held u key was.1);
       count = keeps.count ∙ a.count ∙ sym keeps.past;
     })
 
 -- an endpoint is closed, and holds nothing any more
-covered-freed : {old new : EndpointName → Option Endpoint} {t key : ℕ} (e : EndpointName) (h : Endpoint) → old e ≡ Some h → Changed old new e None → (Contains (pending h) t → ⊥) → Covered old t key → Covered new t key
+covered-freed : {old new : EndpointName → Option Endpoint} {t key : ℕ} (e : EndpointName) (h : Endpoint) → old e ≡ Some h → Changed old new e None → (Contains h.state.pending t → ⊥) → Covered old t key → Covered new t key
 covered-freed {t = t} e h here changed gone c =
     elim (cases_name c.name e) [
-      | inl same ↦ absurd (gone (subst (λ (x : Endpoint). Contains (pending x) t) (covered-entry c e h here same) c.in_pending))
+      | inl same ↦ absurd (gone (subst (λ (x : Endpoint). Contains x.state.pending t) (covered-entry c e h here same) c.in_pending))
       | inr apart ↦ covered-same c (changed.others c.name apart)
     ]
 
-accounted-close : {state next : State} (e : EndpointName) (h : Endpoint) → endpoint_under state e ≡ Some h → Changes state next (after_close host_calls state.host (endpoint_state h)) e None → Accounted state → Accounted next
+accounted-close : {state next : State} (e : EndpointName) (h : Endpoint) → endpoint_under state e ≡ Some h → Changes state next (after_close host_calls state.host h.state) e None → Accounted state → Accounted next
 accounted-close {state} e h here changes a =
-    let keeps = closed-count state.host (endpoint_state h) in
+    let keeps = closed-count state.host h.state in
     at-host Accounted changes (record {
       held = λ t key own.
-          let was = closed-held state.host (endpoint_state h) t key own in
+          let was = closed-held state.host h.state t key own in
           still-awaited changes.futures (covered-freed e h here changes.endpoints was.1) (a.held t key was.0);
       count = keeps.count ∙ a.count ∙ sym keeps.past;
     })
@@ -227,9 +211,8 @@ accounted-free state n f host here parts a =
 -- an endpoint goes to another name, which was free
 accounted-move : {state next : State} (from to : EndpointName) (h g : Endpoint) → endpoint_under state from ≡ Some h → endpoint_under state to ≡ None → SameTickets h g → MovesTo state next from to g → Accounted state → Accounted next
 accounted-move {state} {next} from to h g here free same moved a =
-    let all : pending h ≡ pending g = ap (λ (n : ℕ). drop n h.tickets) (sym same.taken) ∙ ap (λ (l : List ℕ). drop g.taken l) (sym same.tickets) in
     let covered : (t key : ℕ) → Covered (endpoint_under state) t key → Covered (endpoint_under next) t key = λ t key c. elim (cases_name c.name from) [
-      | inl at ↦ covered-now c from to h g here moved.put.endpoints.here same.key (subst (λ (l : List ℕ). Contains l t) all) at
+      | inl at ↦ covered-now c from to h g here moved.put.endpoints.here same.key (subst (λ (l : List ℕ). Contains l t) (sym same.pending)) at
       | inr away ↦
           let off : c.name ≢ to = λ is. none-some c.entry (sym free ∙ ap (endpoint_under state) (sym is) ∙ c.at) in
           covered-same c (moved.put.endpoints.others c.name off ∙ moved.gone.endpoints.others c.name away)
@@ -237,31 +220,30 @@ accounted-move {state} {next} from to h g here free same moved a =
     at-host Accounted moved.put (record { held = λ t key own. still-awaited (moved.put.futures ∙ moved.gone.futures) (covered t key) (a.held t key own); count = a.count })
 
 -- so over each answer
-acts-accounted : {few : Type 0} {a : Answer} {state : State} {closed : List ClosedEndpoint} {handed : List ControlMove} → few → Acts few a state closed handed → Accounted state → Accounted a.state
-acts-accounted few (goes quiet rest) acc = acts-accounted few rest (accounted-quiet quiet acc)
-acts-accounted few (fits other rest) acc = acts-accounted few (rest few) acc
-acts-accounted few (reads e t h stream here front other changes rest) acc = acts-accounted few rest (accounted-take e t h here front changes acc)
-acts-accounted few (moves from to h g here free same read other moved quiet) acc = accounted-quiet quiet (accounted-move from to h g here free same moved acc)
-acts-accounted few (opens e x free none zero_ changes rest) acc = acts-accounted few rest (accounted-open (Own e) x free changes acc)
-acts-accounted few (submits e b h here within changes rest) acc = acts-accounted few rest (accounted-submit e b h here (within few) changes acc)
-acts-accounted {state} few (starts n request timeout device free rest) acc = acts-accounted few rest (accounted-start_future state n request timeout device free acc)
-acts-accounted {state} few (controls host one adds rest) acc = acts-accounted few rest (accounted-control state host one (adds acc.count) acc)
-acts-accounted {state} few (frees n f host here parts rest) acc = acts-accounted few rest (accounted-free state n f host here parts acc)
-acts-accounted few (ends other quiet) acc = accounted-quiet quiet acc
-acts-accounted few (takes e t h c here front came line changes quiet) acc = accounted-quiet quiet (accounted-take e t h here (front few) changes acc)
-acts-accounted few (closes e h lines here other changes quiet) acc = accounted-quiet quiet (accounted-close e h here changes acc)
+acts-accounted : {a : Answer} {state : State} {closed : List ClosedEndpoint} {handed : List ControlMove} → Acts a state closed handed → Accounted state → Accounted a.state
+acts-accounted (goes quiet rest) acc = acts-accounted rest (accounted-quiet quiet acc)
+acts-accounted (reads e t ts h stream here front other changes rest) acc = acts-accounted rest (accounted-take e t ts h here front changes acc)
+acts-accounted (moves from to h g here free same read other moved quiet) acc = accounted-quiet quiet (accounted-move from to h g here free same moved acc)
+acts-accounted (opens e x free none fresh changes rest) acc = acts-accounted rest (accounted-open (Own e) x free changes acc)
+acts-accounted (submits e b h here changes rest) acc = acts-accounted rest (accounted-submit e b h here changes acc)
+acts-accounted {state} (starts n request timeout device free rest) acc = acts-accounted rest (accounted-start_future state n request timeout device free acc)
+acts-accounted {state} (controls host one adds rest) acc = acts-accounted rest (accounted-control state host one (adds acc.count) acc)
+acts-accounted {state} (frees n f host here parts rest) acc = acts-accounted rest (accounted-free state n f host here parts acc)
+acts-accounted (ends other quiet) acc = accounted-quiet quiet acc
+acts-accounted (takes e t ts h c here front came line changes quiet) acc = accounted-quiet quiet (accounted-take e t ts h here front changes acc)
+acts-accounted (closes e h lines here other changes quiet) acc = accounted-quiet quiet (accounted-close e h here changes acc)
 
 pub accounted-answer : AnswerKeepsAccounts
-accounted-answer state item few a = acts-accounted few (answer-does state (λ e. []) item) a
+accounted-answer state item a = acts-accounted (answer-does state (λ e. []) item) a
 
 -- and over the closes at the end
 accounted-below : (act : State → ℕ → State) (name : ℕ → EndpointName) → Closing act name → (state : State) (k : ℕ) → Accounted state → Accounted (below act state k)
 accounted-below act name closing state zero a = a
-accounted-below act name closing state (suc k) a = acts-accounted tt (closing (below act state k) k (λ e. [])) (accounted-below act name closing state k a)
+accounted-below act name closing state (suc k) a = acts-accounted (closing (below act state k) k (λ e. [])) (accounted-below act name closing state k a)
 
 accounted-futures : (state : State) (n : ℕ) → Accounted state → Accounted (futures_closed state n)
 accounted-futures state zero a = a
-accounted-futures state (suc n) a = acts-accounted {few = Unit {0}} tt (future_closed_under-does (futures_closed state n) n) (accounted-futures state n a)
+accounted-futures state (suc n) a = acts-accounted (future_closed_under-does (futures_closed state n) n) (accounted-futures state n a)
 
 pub accounted-all_closed : CloseKeepsAccounts
 unfolding all_closed

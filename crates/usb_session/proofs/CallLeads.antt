@@ -1,7 +1,6 @@
 -- A call of a reader or a writer submits and takes tickets of the endpoint that it holds, and leads to what it left of the host and the endpoint.
-use Rattle.std.proofs.Common.{◌≡◌, ℕ, ◌≤◌, ◌+◌, ◌-◌, suc, arith, true, false, List, [], ◌∷◌, ◌++◌, length, take, drop, length-append, Option, Some, None, inl, inr, refl, ap, sym, ◌∙◌, subst, append_assoc, append-nil}
+use Rattle.std.proofs.Common.{◌≡◌, ℕ, ◌≤◌, ◌+◌, ◌-◌, suc, arith, true, false, List, [], ◌∷◌, ◌++◌, length, drop, Option, Some, None, inl, inr, refl, ap, sym, ◌∙◌, subst, append_assoc, append-nil}
 use Rattle.std.specs.Option.{option_map}
-use Rattle.std.proofs.Math.Seq.{take-append_seam}
 use Rattle.std.proofs.lemmas.Option.{none-some}
 use Rattle.usb_xfer.specs.BufferState.{BufferState}
 use Rattle.usb_kernel.specs.Tickets.{tickets}
@@ -20,9 +19,9 @@ use Rattle.usb_session_calls.proofs.EndpointNameLemmas.{Changed, change-changes,
 use Rattle.usb_session_calls.specs.State.{State, Endpoint, Reader, Writer, endpoint_of_reader, endpoint_of_writer, tickets_of}
 use Rattle.usb_session_calls.specs.Readers.{taken_by_call}
 use Rattle.usb_session_calls.specs.Answer.{Answer}
-use Rattle.usb_session_calls.specs.Submits.{with_submission}
 use Rattle.usb_session_calls.specs.Polls.{front_taken}
-use Rattle.usb_session.proofs.Does.{Acts, Changes, Does, IsStream, says_done, goes, submits, reads, ends, quiet-aside, own-changes, reader-changes, writer-changes}
+use Rattle.usb_session.proofs.TakenTickets.{taken-are}
+use Rattle.usb_session.proofs.Does.{Acts, Changes, IsStream, says_done, goes, submits, reads, ends, quiet-aside, reader-changes, writer-changes}
 
 -- how many tickets a host has had
 abbrev count_in : HostState → ℕ
@@ -165,18 +164,12 @@ module _ (a : Answer) (state : State) (e : EndpointName) (h : Endpoint) (stream 
             (changes-at l.taken next x y host (host_taken host front))) rest);
       }
 
-take-first : (xs ys : List ℕ) → take (length (xs ++ ys) - length ys) (xs ++ ys) ≡ xs
-take-first xs ys =
-    let n : length (xs ++ ys) - length ys ≡ length xs = omega (arith, length-append xs ys) in
-    ap (λ k. take k (xs ++ ys)) n ∙ take-append_seam xs ys
-
 -- so it comes to the state behind the call, where the endpoint is this one to it (x)
 pub called-acts : (state : State) (a : Answer) (e : EndpointName) (h : Endpoint) (host : HostState) (x : EndpointState) → IsStream e → h.was_streamed ≡ true → endpoint_under state e ≡ Some h → says_done a.line ≡ false
     → Changes state a.state host e (Some (record h { state = x; taken = h.taken ++ taken_by_call (tickets_of state) (count_in host) h.state.pending x.pending })) → Leads a state e h host x → Acts a state [] []
 called-acts state a e h host x stream was here other changes l =
     let m = tickets_of state in
-    let all = h.state.pending ++ numbers_from m (count_in host - m) in
-    let by_call : taken_by_call m (count_in host) h.state.pending x.pending ≡ l.taken = ap (λ (ts : List ℕ). take (length ts - length x.pending) ts) (sym l.are) ∙ take-first l.taken x.pending in
+    let by_call = taken-are m (count_in host) h.state.pending x.pending l.taken (sym l.are) in
     let at = at-changes state e h (by_now h l.taken x) host stream was here in
     let c = then-changes at changes in
     l.leads (ends other (quiet-aside (at_call state e (by_now h l.taken x) host) a.state (ap (λ (v : HostState). v.kernel.past) changes.host_is) (ap (λ (v : HostState). v.tickets) changes.host_is)

@@ -35,7 +35,7 @@ use Rattle.usb_session.proofs.WriterDoes.{writer_closed-does}
 use Rattle.usb_session.proofs.EveryLine.{answer-does}
 use Rattle.usb_session.proofs.OrderLemmas.{goes-keeps, ended-given, given-within}
 use Rattle.usb_session.proofs.TimesLemmas.{times, times-append, counts-times, times_awaited, awaited-none}
-use Rattle.usb_session.proofs.StepLemmas.{Inv, below-step, few-taken, answer-step, handed-moves, none-handed, future_closed-step}
+use Rattle.usb_session.proofs.StepLemmas.{Inv, below-step, answer-step, handed-moves, none-handed, future_closed-step}
 use Rattle.usb_session.proofs.HandleLemmas.{readers-step, writers-step, ends-step, futures-step, end-quiet, inv-start, inv-of, runs-go}
 use Rattle.usb_session.proofs.RunLemmas.{no-future_start}
 use Rattle.usb_session.proofs.FuturesAwaited.{AllAwait, Parting, parting-then, parting-same, acts-parting}
@@ -49,7 +49,7 @@ closed-append t xs ys = ap (times t) (map-append (λ (x : ClosedFuture). x.ticke
 
 -- over a line
 line-parting : (state : State) (line : Item) → Inv state → AllAwait state → Parting state (answer state line).state (control_moves state (call_of line) (answer state line))
-line-parting state line inv all = acts-parting (few-taken state inv) (answer-does state (λ e. []) line) inv all
+line-parting state line inv all = acts-parting (answer-does state (λ e. []) line) inv all
 
 line-adds : (state : State) (line : Item) (t : ℕ) → Inv state → AllAwait state
     → times t (tickets_told (answered_by state (call_of line) (answer state line))) + times t (tickets_closed (future_closed_by state (call_of line) (answer state line))) + times_awaited t (answer state line).state.futures ≡ times_awaited t state.futures + times t (control_ticket state line)
@@ -68,7 +68,7 @@ below-parting : (act : State → ℕ → State) (name : ℕ → EndpointName) �
 below-parting act name closing state zero inv all = parting-same state state refl (extends-same state.host.kernel.past) all
 below-parting act name closing state (suc k) inv all =
     let first = below-parting act name closing state k inv all in
-    parting-then first (acts-parting tt (closing (below act state k) k (λ e. [])) (below-step act name closing state (λ e. []) k inv).inv first.awaits)
+    parting-then first (acts-parting (closing (below act state k) k (λ e. [])) (below-step act name closing state (λ e. []) k inv).inv first.awaits)
 
 -- and then the futures
 record FuturesEnd (state : State) (k : ℕ) : Type 0 where
@@ -89,7 +89,7 @@ futures-end state (suc k) inv all =
     let next = future_closed_under now k in
     let inv_now = (futures-step state k inv).inv in
     let gone = future_closed_as now.host.kernel.past (named now.futures k) in
-    let parting = acts-parting {few = Unit {0}} tt (future_closed_under-does now k) inv_now first.awaits in
+    let parting = acts-parting (future_closed_under-does now k) inv_now first.awaits in
     record {
       awaits = parting.awaits;
       adds = λ t.

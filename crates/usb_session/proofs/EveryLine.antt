@@ -1,7 +1,6 @@
 -- What each call does, and so each line.
-use Rattle.std.proofs.Common.{ℕ, ◌≤◌, arith, List, [], Bool, true, false, inl, inr, refl, sym, subst}
+use Rattle.std.proofs.Common.{ℕ, List, [], Bool, true, false, refl, sym, subst}
 use Rattle.std.specs.Prelude.{if◌then◌else◌}
-use Rattle.std.proofs.lemmas.Bool.{cases_lt, lt-ltb, le-ltb}
 use Rattle.usb_script_words.specs.EndpointKinds.{transfer_type_of, direction_of}
 use Rattle.usb_session_text.specs.Completions.{now_line}
 use Rattle.usb_script_lines.specs.declared.item.Item.{Item}

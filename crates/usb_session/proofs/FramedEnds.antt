@@ -1,5 +1,5 @@
 -- A read until a short packet that gives no byte leaves an end that stands, and so does a call that lends none.
-use Rattle.std.proofs.Common.{◌≡◌, ◌∙◌, ℕ, ◌+◌, ◌≤◌, arith, Bool, true, List, [], ◌∷◌, ◌++◌, codes, length, map, get_or, take-append-drop, length-append, Option, Some, None, Result, Ok, Err, refl, ap, sym, subst}
+use Rattle.std.proofs.Common.{◌≡◌, ◌∙◌, ℕ, ◌+◌, ◌≤◌, arith, Bool, true, List, [], ◌∷◌, ◌++◌, codes, length, map, get_or, length-append, Option, Some, None, Result, Ok, Err, refl, ap, sym}
 use Rattle.std.specs.Prelude.{if◌then◌else◌}
 use Rattle.std.specs.Fmt.{decimal}
 use Rattle.std.proofs.lemmas.Bool.{cond_both}
@@ -13,7 +13,7 @@ use Rattle.usb_device_host.specs.HostState.{HostState}
 use Rattle.usb_device_host.specs.HostCalls.{host_calls}
 use Rattle.usb_io.specs.Readers.{is_end}
 use Rattle.usb_io.specs.Reads.{Reading, reading}
-use Rattle.usb_io.specs.Streams.{Mark, Byte, End, stream_of, delivered}
+use Rattle.usb_io.specs.Streams.{Mark, Byte, End}
 use Rattle.usb_io.specs.Following.{IsPrefixOf}
 use Rattle.usb_io.specs.StreamFaults.{read_fault}
 use Rattle.usb_io.specs.declared.fault.ReadFault.{ReadFault}
@@ -31,7 +31,7 @@ use Rattle.usb_session_calls.specs.Names.{named}
 use Rattle.usb_session_calls.proofs.EndpointNameLemmas.{change-changes}
 use Rattle.usb_session_calls.specs.declared.call.ReaderCall.{ReaderCall}
 use Rattle.usb_session_calls.specs.declared.call.ReaderCall.TheVariants as readers
-use Rattle.usb_session_calls.specs.State.{State, Reader, state_of_reader}
+use Rattle.usb_session_calls.specs.State.{State, Reader, endpoint_of_reader}
 use Rattle.usb_session_calls.specs.Answer.{Answer, condition_answer, if_open}
 use Rattle.usb_session_calls.specs.Readers.{called}
 use Rattle.usb_session_streams.specs.ReaderCalls.{given_by}
@@ -106,15 +106,15 @@ polled-none print none (Err TimedOut) is = absurd (none.pending is)
 polled-none print none (Err UnexpectedEof) is = absurd (none.fault (read_fault UnexpectedEof) is)
 
 -- what a call left of a reader
-as-end : (state : State) (r : ℕ) (x0 x : Reader) (items : Option (List Mark)) (bytes : List ℕ) (w : Reading HostState) → named state.readers r ≡ Some x0 → is_end w.reader ≡ true → named (called state r items bytes w).readers r ≡ Some x → is_end (state_of_reader x) ≡ true
+as-end : (state : State) (r : ℕ) (x0 x : Reader) (items : Option (List Mark)) (bytes : List ℕ) (w : Reading HostState) → named state.readers r ≡ Some x0 → is_end w.reader ≡ true → named (called state r items bytes w).readers r ≡ Some x → is_end x.state ≡ true
 as-end state r x0 x items bytes w was ends at =
     let change : Reader → Reader = called_at state items bytes w in
     let now : x ≡ change x0 = same_Some x (change x0) (sym at ∙ (change-changes change state.readers r x0 was).here) in
-    ap (λ (y : Reader). is_end (state_of_reader y)) now ∙ ends
+    ap (λ (y : Reader). is_end y.state) now ∙ ends
 
 -- where a line says that no byte was given, an end stands
 abbrev pub Ends : (List ℕ → List ℕ) → ℕ → Answer → Type 0
-Ends print r a = (x : Reader) → named a.state.readers r ≡ Some x → a.line ≡ print [] → is_end (state_of_reader x) ≡ true
+Ends print r a = (x : Reader) → named a.state.readers r ≡ Some x → a.line ≡ print [] → is_end x.state ≡ true
 
 bar-ends : (print : List ℕ → List ℕ) → PrintsNone print → (state : State) (r : ℕ) (bars : Bool) (call : Answer) → Ends print r call → Ends print r (if bars then condition_answer state else call)
 bar-ends print none state r bars call ends = cond_both bars (condition_answer state) call (Ends print r) (λ yes_ x at is. absurd (none.condition is)) (λ no_. ends)
@@ -136,13 +136,13 @@ line-ends print none state bars barred r call steps ends =
 read_on-ends : (state : State) (r timeout most : ℕ) (line : Result (List ℕ) ReadFault → List ℕ) (x0 : Reader) → 1 ≤ most → ((a : Result (List ℕ) ReadFault) → line a ≡ read_line [] → a ≡ Ok []) → named state.readers r ≡ Some x0
     → Ends read_line r (read_on state UntilShort r most timeout line x0)
 read_on-ends state r timeout most line x0 some none was =
-    let w = reading state.host (state_of_reader x0) in
+    let w = reading state.host x0.state in
     let a = read_came host_calls true timeout most w in
     bar-ends read_line read-none state r (bars_read state UntilShort x0) (read_as state UntilShort r x0 line a) (λ x at is.
     as-end state r x0 x (consumed_with UntilShort (map Byte (given_by a.answer)) x0.consumed) (given_by a.answer) a.left was (empty_read_leaves_end timeout most w some (none a.answer is)) at)
 
 pub read-ends : (r most : ℕ) → 1 ≤ most → (state : State) (x : Reader) → named state.readers r ≡ Some x → Ends read_line r (reader_called (readers.Read UntilShort most) state r x)
-read-ends r most some state x was = read_on-ends state r x.bare.timeout most (given_line read_line) x some (given-none read_line read-none) was
+read-ends r most some state x was = read_on-ends state r x.state.timeout most (given_line read_line) x some (given-none read_line read-none) was
 
 pub poll_read-ends : (r most : ℕ) → 1 ≤ most → (state : State) (x : Reader) → named state.readers r ≡ Some x → Ends read_line r (reader_called (readers.PollRead UntilShort most) state r x)
 poll_read-ends r most some state x was = read_on-ends state r 0 most (polled_given_line read_line) x some (polled-none read_line read-none) was
@@ -151,24 +151,20 @@ poll_read-ends r most some state x was = read_on-ends state r 0 most (polled_giv
 fill_on-ends : (state : State) (r timeout : ℕ) (line : Result (List ℕ) ReadFault → List ℕ) (x0 : Reader) → ((a : Result (List ℕ) ReadFault) → line a ≡ buffer_line [] → a ≡ Ok []) → named state.readers r ≡ Some x0
     → Ends buffer_line r (fill_on state UntilShort r timeout line x0)
 fill_on-ends state r timeout line x0 none was =
-    let w = reading state.host (state_of_reader x0) in
+    let w = reading state.host x0.state in
     let a = fill_came host_calls true timeout w in
     bar-ends buffer_line buffer-none state r (bars_read state UntilShort x0) (filled_as state UntilShort r x0 line a) (λ x at is.
     as-end state r x0 x (consumed_with UntilShort [] x0.consumed) [] a.left was (empty_fill_leaves_end timeout w (none a.answer is)) at)
 
 pub fill-ends : (r : ℕ) (state : State) (x : Reader) → named state.readers r ≡ Some x → Ends buffer_line r (reader_called (readers.FillBuf UntilShort) state r x)
-fill-ends r state x was = fill_on-ends state r x.bare.timeout (given_line buffer_line) x (given-none buffer_line buffer-none) was
+fill-ends r state x was = fill_on-ends state r x.state.timeout (given_line buffer_line) x (given-none buffer_line buffer-none) was
 
 pub poll_fill-ends : (r : ℕ) (state : State) (x : Reader) → named state.readers r ≡ Some x → Ends buffer_line r (reader_called (readers.PollFillBuf UntilShort) state r x)
 poll_fill-ends r state x was = fill_on-ends state r 0 (polled_given_line buffer_line) x (polled-none buffer_line buffer-none) was
 
 -- the stream of a reader's endpoint
-pub prefix-at : (past : List Event) (x : Reader) (consumed : List Mark) → FollowsAt past x consumed → IsPrefixOf consumed (stream_at past x.endpoint)
-prefix-at past x consumed f =
-    subst (λ (ts : List ℕ). IsPrefixOf consumed (stream_of x.endpoint.maximum (delivered ts past))) (take-append-drop x.endpoint.taken x.endpoint.tickets)
-    (consumed_is_prefix past (state_of_reader x) (history_of x.endpoint consumed) f.follows)
+pub prefix-at : (past : List Event) (x : Reader) (consumed : List Mark) → FollowsAt past x consumed → IsPrefixOf consumed (stream_at past (endpoint_of_reader x))
+prefix-at past x consumed f = consumed_is_prefix past x.state (history_of x consumed) f.follows
 
-pub end-at : (past : List Event) (x : Reader) (consumed : List Mark) → FollowsAt past x consumed → is_end (state_of_reader x) ≡ true → IsPrefixOf (consumed ++ End ∷ []) (stream_at past x.endpoint)
-end-at past x consumed f is =
-    subst (λ (ts : List ℕ). IsPrefixOf (consumed ++ End ∷ []) (stream_of x.endpoint.maximum (delivered ts past))) (take-append-drop x.endpoint.taken x.endpoint.tickets)
-    (end_is_next past (state_of_reader x) (history_of x.endpoint consumed) f.follows is)
+pub end-at : (past : List Event) (x : Reader) (consumed : List Mark) → FollowsAt past x consumed → is_end x.state ≡ true → IsPrefixOf (consumed ++ End ∷ []) (stream_at past (endpoint_of_reader x))
+end-at past x consumed f is = end_is_next past x.state (history_of x consumed) f.follows is

@@ -21,7 +21,7 @@ use Rattle.usb_session.specs.Served.{ClosedEndpoint}
 use Rattle.usb_session.specs.ControlAnswers.{listed}
 use Rattle.usb_session_calls.proofs.FutureLemmas.{deadline-stays, unfound}
 use Rattle.usb_session.proofs.TimesLemmas.{one, times, times-append, times_awaited, awaited-freed, awaited-set}
-use Rattle.usb_session.proofs.Does.{ControlMove, Handed, Parted, handed_of, parted_of, handed-append, parted-append, handed-parted, parted-parted, Acts, without_future_of, goes, opens, submits, fits, reads, starts, controls, frees, ends, takes, closes, moves}
+use Rattle.usb_session.proofs.Does.{ControlMove, Handed, Parted, handed_of, parted_of, handed-append, parted-append, handed-parted, parted-parted, Acts, without_future_of, goes, opens, submits, reads, starts, controls, frees, ends, takes, closes, moves}
 use Rattle.usb_session.proofs.StepLemmas.{Inv, step-quiet, step-open, step-push, step-take, step-close, step-move, step-start, step-control, step-free}
 
 -- a future has its ticket, and while that is not reaped its deadline
@@ -113,45 +113,44 @@ parting-free state n f host here parts all =
     }
 
 -- so over what an answer does
-pub acts-parting : {few : Type 0} {a : Answer} {state : State} {closed : List ClosedEndpoint} {ms : List ControlMove} → few → Acts few a state closed ms → Inv state → AllAwait state → Parting state a.state ms
-acts-parting {few} {a} {state} fit (goes {next = mid} quiet rest) inv all =
+pub acts-parting : {a : Answer} {state : State} {closed : List ClosedEndpoint} {ms : List ControlMove} → Acts a state closed ms → Inv state → AllAwait state → Parting state a.state ms
+acts-parting {a} {state} (goes {next = mid} quiet rest) inv all =
     let first = parting-same state mid quiet.futures quiet.keeps.past all in
-    parting-then first (acts-parting fit rest (step-quiet inv quiet).inv first.awaits)
-acts-parting fit (fits other rest) inv all = acts-parting fit (rest fit) inv all
-acts-parting {few} {a} {state} fit (reads {next = mid} e t h stream here front other changes rest) inv all =
-    let step = step-take e t h inv here front changes in
+    parting-then first (acts-parting rest (step-quiet inv quiet).inv first.awaits)
+acts-parting {a} {state} (reads {next = mid} e t ts h stream here front other changes rest) inv all =
+    let step = step-take e t ts h inv here front changes in
     let first = parting-same state mid changes.futures step.goes.past all in
-    parting-then first (acts-parting fit rest step.inv first.awaits)
-acts-parting {few} {a} {state} fit (moves {next = mid} from to h g here free same read other moved quiet) inv all =
+    parting-then first (acts-parting rest step.inv first.awaits)
+acts-parting {a} {state} (moves {next = mid} from to h g here free same read other moved quiet) inv all =
     let step = step-move from to h g inv here free same read moved in
     let first = parting-same state mid (moved.put.futures ∙ moved.gone.futures) step.goes.past all in
     parting-then first (parting-same mid a.state quiet.futures quiet.keeps.past first.awaits)
-acts-parting {few} {a} {state} fit (opens {next = mid} e x free none zero_ changes rest) inv all =
-    let step = step-open e x inv free none zero_ changes in
+acts-parting {a} {state} (opens {next = mid} e x free none fresh changes rest) inv all =
+    let step = step-open e x inv free none fresh changes in
     let first = parting-same state mid changes.futures step.goes.past all in
-    parting-then first (acts-parting fit rest step.inv first.awaits)
-acts-parting {few} {a} {state} fit (submits {next = mid} e b h here within changes rest) inv all =
+    parting-then first (acts-parting rest step.inv first.awaits)
+acts-parting {a} {state} (submits {next = mid} e b h here changes rest) inv all =
     let step = step-push e b h inv here changes in
     let first = parting-same state mid changes.futures step.goes.past all in
-    parting-then first (acts-parting fit rest step.inv first.awaits)
-acts-parting {few} {a} {state} fit (starts n request timeout device free rest) inv all =
+    parting-then first (acts-parting rest step.inv first.awaits)
+acts-parting {a} {state} (starts n request timeout device free rest) inv all =
     let step = step-start state n request timeout device inv free in
     let first = parting-start state n request timeout device inv free all in
-    parting-then first (acts-parting fit rest step.inv first.awaits)
-acts-parting {few} {a} {state} fit (controls host one adds rest) inv all =
+    parting-then first (acts-parting rest step.inv first.awaits)
+acts-parting {a} {state} (controls host one adds rest) inv all =
     let step = step-control state host inv one (adds inv.count) in
     let first = parting-control state (with_host state host) (tickets_of state) refl step.goes.past all in
-    parting-then first (acts-parting fit rest step.inv first.awaits)
-acts-parting {few} {a} {state} fit (frees n f host here parts rest) inv all =
+    parting-then first (acts-parting rest step.inv first.awaits)
+acts-parting {a} {state} (frees n f host here parts rest) inv all =
     let step = step-free state n f host inv here parts in
     let first = parting-free state n f host here parts all in
-    parting-then first (acts-parting fit rest step.inv first.awaits)
-acts-parting {few} {a} {state} fit (ends other quiet) inv all = parting-same state a.state quiet.futures quiet.keeps.past all
-acts-parting {few} {a} {state} fit (takes {next = mid} e t h c here front came line changes quiet) inv all =
-    let step = step-take e t h inv here (front fit) changes in
+    parting-then first (acts-parting rest step.inv first.awaits)
+acts-parting {a} {state} (ends other quiet) inv all = parting-same state a.state quiet.futures quiet.keeps.past all
+acts-parting {a} {state} (takes {next = mid} e t ts h c here front came line changes quiet) inv all =
+    let step = step-take e t ts h inv here front changes in
     let first = parting-same state mid changes.futures step.goes.past all in
     parting-then first (parting-same mid a.state quiet.futures quiet.keeps.past first.awaits)
-acts-parting {few} {a} {state} fit (closes {next = mid} e h lines here other changes quiet) inv all =
+acts-parting {a} {state} (closes {next = mid} e h lines here other changes quiet) inv all =
     let step = step-close e h lines inv here changes in
     let first = parting-same state mid changes.futures step.goes.past all in
     parting-then first (parting-same mid a.state quiet.futures quiet.keeps.past first.awaits)

@@ -1,5 +1,5 @@
 -- The endpoints of a whole script.
-use Rattle.std.proofs.Common.{◌≡◌, ◌≢◌, ℕ, ◌<◌, ◌+◌, ◌-◌, suc, zero, arith, false, List, [], ◌∷◌, ◌++◌, length, map, take, slice_get, Option, Some, None, refl, ap, sym, ◌∙◌, subst, inl, inr}
+use Rattle.std.proofs.Common.{◌≡◌, ◌≢◌, ℕ, ◌<◌, ◌+◌, suc, zero, arith, false, List, [], ◌∷◌, ◌++◌, length, map, slice_get, Option, Some, None, refl, ap, sym, ◌∙◌, subst, inl, inr}
 use Rattle.std.specs.Prelude.{option_and_then, All, count_by, ◌==◌}
 use Rattle.std.proofs.lemmas.Bool.{cases_eq, cond_both}
 use Rattle.std.proofs.lemmas.List.Elements.{All-append, All-nil, All-cons}
@@ -51,9 +51,9 @@ use Rattle.usb_session.proofs.AccountLemmas.{accounted-start, accounted-answer}
 use Rattle.usb_session_calls.proofs.EndpointNameLemmas.{Changed, cases_name, changed-gone}
 use Rattle.usb_session.proofs.RunLemmas.{none-start, no-future_start}
 use Rattle.usb_session.proofs.TimesLemmas.{times, times-append, counts-times, among, among-within, times_open, IsAmong, among-names, open-none, awaited-none}
-use Rattle.usb_session.proofs.OrderLemmas.{Leaves, LeavesTickets, goes-then, closed-few, closed-taken, closed-others}
-use Rattle.usb_session.proofs.StepLemmas.{Inv, Step, Closes, closes-on, all-tickets, step-then, step-after, step-quiet, acts-step, few-taken, answer-step, below-step, future_closed-step}
-use Rattle.usb_session.proofs.PrintLemmas.{Prints, prints-stay, taken_of, AllPrint, all-print}
+use Rattle.usb_session.proofs.OrderLemmas.{Leaves, LeavesTickets, goes-then, closed-taken, closed-others}
+use Rattle.usb_session.proofs.StepLemmas.{Inv, Step, Closes, closes-on, all-tickets, step-then, step-after, step-quiet, acts-step, answer-step, below-step, future_closed-step}
+use Rattle.usb_session.proofs.PrintLemmas.{Prints, prints-stay, AllPrint, all-print}
 use Rattle.usb_session.proofs.TakeLemmas.{answer-takes}
 
 -- the end closes readers, writers and endpoints by number
@@ -221,12 +221,12 @@ inv-start items =
 
 -- what was printed of the endpoints that are closed, and of which no reader or writer was made
 abbrev Printed : List Event → ClosedEndpoint → Type 0
-Printed past c = c.endpoint.was_streamed ≡ false → Prints past (taken_of c.endpoint) c.lines
+Printed past c = c.endpoint.was_streamed ≡ false → Prints past c.endpoint.taken c.lines
 
 printed-on : (old new : List Event) (xs : List ClosedEndpoint) → Extends old new → All (Printed old) xs → All (Printed new) xs
 printed-on old new xs extends all k d below = λ unread. prints-stay old new _ _ extends (all k d below unread)
 
-closed_as-printed : (past : List Event) (lines : List (List ℕ)) (o : Option Endpoint) → ((h : Endpoint) → o ≡ Some h → h.was_streamed ≡ false → Prints past (taken_of h) lines) → All (Printed past) (closed_as past lines o)
+closed_as-printed : (past : List Event) (lines : List (List ℕ)) (o : Option Endpoint) → ((h : Endpoint) → o ≡ Some h → h.was_streamed ≡ false → Prints past h.taken lines) → All (Printed past) (closed_as past lines o)
 closed_as-printed past lines None prints = All-nil (Printed past)
 closed_as-printed past lines (Some h) prints = All-cons (Printed past) (record { endpoint = h; past = past; lines = lines }) [] (prints h refl) (All-nil (Printed past))
 
@@ -248,7 +248,7 @@ closed_by-printed state lines item prints =
 closed-prints : (state next : State) (e : EndpointName) (lines : EndpointName → List (List ℕ)) → Changed (endpoint_under state) (endpoint_under next) e None → Extends state.host.kernel.past next.host.kernel.past → AllPrint state lines → AllPrint next lines
 closed-prints state next e lines gone extends prints d g is unread =
     let was = changed-gone (endpoint_under state) (endpoint_under next) e d g gone is in
-    prints-stay state.host.kernel.past next.host.kernel.past (taken_of g) (lines d) extends (prints d g was.1 unread)
+    prints-stay state.host.kernel.past next.host.kernel.past g.taken (lines d) extends (prints d g was.1 unread)
 
 -- and one more is closed
 closed-printed : (state next : State) (e : EndpointName) (lines : EndpointName → List (List ℕ)) (before : List ClosedEndpoint) → Extends state.host.kernel.past next.host.kernel.past → AllPrint state lines → All (Printed state.host.kernel.past) before
@@ -270,7 +270,7 @@ below-print act name shuts closing state lines (suc k) inv prints =
     let next = act mid k in
     let before = given_below act (λ s n. closed_under s lines (name n)) state k in
     let p = below-print act name shuts closing state lines k inv prints in
-    let extends = (acts-step tt (closing mid k lines) (below-step act name closing state lines k inv).inv).goes.past in
+    let extends = (acts-step (closing mid k lines) (below-step act name closing state lines k inv).inv).goes.past in
     record {
       open_ = closed-prints mid next (name k) lines (shuts mid k) extends p.open_;
       shut_ = closed-printed mid next (name k) lines before extends p.open_ p.shut_;
@@ -317,11 +317,10 @@ handles-once state lines items t none few run within =
     let parts = times-append t (tickets_of_all (closed_endpoints_from state lines items)) (control_tickets_from state items) in
     omega arith
 
-served-one : (last : HostState) (c : ClosedEndpoint) → HasEnds last.tickets → Closes last c → (c.endpoint.was_streamed ≡ false → c.lines ≡ map (λ t. polled_line (transfer_completion last.kernel.past t)) (take c.endpoint.taken c.endpoint.tickets)) → IsServedInOrder last c
+served-one : (last : HostState) (c : ClosedEndpoint) → HasEnds last.tickets → Closes last c → (c.endpoint.was_streamed ≡ false → c.lines ≡ map (λ t. polled_line (transfer_completion last.kernel.past t)) c.endpoint.taken) → IsServedInOrder last c
 served-one last c ends closes printed =
     record {
       rising = closes.rising;
-      few = closed-few last c.endpoint c.past closes;
       printed = printed;
       taken = closed-taken last c.endpoint c.past closes;
       others = closed-others last c.endpoint c.past ends closes;
@@ -358,10 +357,9 @@ inv-behind : (state : State) (items : List Item) → Inv state → Inv (behind s
 inv-behind state [] inv = inv
 inv-behind state (item ∷ items) inv = inv-behind (answer state item).state items (answer-step state (λ e. []) item inv).inv
 
-accounted-behind : (state : State) (items : List Item) → Inv state → Accounted state → Accounted (behind state items)
-accounted-behind state [] inv a = a
-accounted-behind state (item ∷ items) inv a =
-    accounted-behind (answer state item).state items (answer-step state (λ e. []) item inv).inv (accounted-answer state item (few-taken state inv) a)
+accounted-behind : (state : State) (items : List Item) → Accounted state → Accounted (behind state items)
+accounted-behind state [] a = a
+accounted-behind state (item ∷ items) a = accounted-behind (answer state item).state items (accounted-answer state item a)
 
 leaves-end : (o p : Option HostTicket) (end : TicketEnd) → Leaves o p → option_and_then ended_at o ≡ Some end → option_and_then ended_at p ≡ Some end
 leaves-end None p end leaves is = absurd (none-some end is)
@@ -397,5 +395,5 @@ scripts-go_on =
     record {
       line = λ items before item. goes-to (answer-step (behind (start items) before) (λ e. []) item (inv-of items before)).goes;
       end = λ items before. goes-to (runs (behind (start items) before) (λ e. []) [] (inv-of items before)).goes;
-      accounted = λ items before. accounted-behind (start items) before (inv-start items) (accounted-start items);
+      accounted = λ items before. accounted-behind (start items) before (accounted-start items);
     }

@@ -1,9 +1,9 @@
 -- The order in which an endpoint's tickets are taken, at a host.
-use Rattle.std.proofs.Common.{ℕ, zero, suc, arith, ◌≡◌, ◌≢◌, ◌<◌, ◌≤◌, ◌+◌, ◌⊎◌, true, false, List, [], ◌∷◌, ◌++◌, length, take, drop, get_or, slice_get, Option, Some, None, inl, inr, refl, sym, ◌∙◌, ap, subst, append_assoc}
+use Rattle.std.proofs.Common.{ℕ, zero, suc, arith, ◌≡◌, ◌≢◌, ◌<◌, ◌≤◌, ◌+◌, ◌⊎◌, true, false, List, [], ◌∷◌, ◌++◌, length, drop, get_or, slice_get, Option, Some, None, inl, inr, refl, sym, ◌∙◌, ap, subst, append_assoc}
 use Rattle.std.specs.Prelude.{is_some, All, IsSome, option_and_then}
 use Rattle.std.specs.List.Sorted.{IsStrictlyIncreasing}
 use Rattle.std.proofs.lemmas.Bool.{cases_eq, cases_lt}
-use Rattle.std.proofs.lemmas.Option.{none-some, same_Some, slice_get_within}
+use Rattle.std.proofs.lemmas.Option.{slice_get_within}
 use Rattle.std.proofs.lemmas.List.{length-append}
 use Rattle.std.proofs.lemmas.List.Elements.{All-nil, All-append, All-head, All-tail, All-push}
 use Rattle.usb_kernel.specs.declared.event.Event.{Event}
@@ -23,8 +23,8 @@ use Rattle.usb_device_host.specs.TicketEnds.{host_taken, host_abandoned}
 use Rattle.usb_device_host.specs.HostCalls.{host_discarded, host_left, host_calls}
 use Rattle.usb_device_host.proofs.CloseLemmas.{discards-tickets, discards-completion, abandoned-past, abandoned-others, left-tickets}
 use Rattle.usb_device_host.proofs.FollowLemmas.{Follows, KeepsTickets, on-all_discarded, on-left, taken-past, taken-others, taken-here, GivenUp, dropped, waits, abandoned-here}
-use Rattle.usb_session_calls.specs.State.{Endpoint, pending, endpoint_state}
-use Rattle.usb_session_calls.specs.Polls.{one_taken}
+use Rattle.usb_session_calls.specs.State.{Endpoint, tickets_at}
+use Rattle.usb_session_calls.specs.Polls.{front_taken}
 use Rattle.usb_session.specs.Served.{end_given_up}
 use Rattle.usb_session_calls.specs.Submits.{with_submission}
 use Rattle.usb_session.proofs.TimesLemmas.{one, one-same, one-apart, times, times-append, apart-all, stands}
@@ -38,37 +38,15 @@ pub record IsHeld (h : HostState) (t : ℕ) : Type 0 where
   pub hold : Hold
   pub is : slice_get h.tickets t ≡ Some (HeldBy hold)
 
--- of an open endpoint's tickets the first were taken, and it holds the others
+-- an open endpoint holds its pending tickets, and the others were taken
 pub record InOrder (h : HostState) (e : Endpoint) : Type 0 where
-  pub front : List ℕ
-  pub back : List ℕ
-  pub tickets : e.tickets ≡ front ++ back
-  pub count : e.taken ≡ length front
-  pub taken : All (IsTaken h) front
-  pub held : All (IsHeld h) back
-  pub rising : IsStrictlyIncreasing e.tickets
-
--- the parts of a list by the length of the first
-drop-front : (xs ys : List ℕ) → drop (length xs) (xs ++ ys) ≡ ys
-drop-front [] ys = refl
-drop-front (x ∷ xs) ys = drop-front xs ys
-
-take-front : (xs ys : List ℕ) → take (length xs) (xs ++ ys) ≡ xs
-take-front [] ys = refl
-take-front (x ∷ xs) ys = ap (λ l. x ∷ l) (take-front xs ys)
-
-pending-back : (h : HostState) (e : Endpoint) (i : InOrder h e) → pending e ≡ i.back
-pending-back h e i = ap (λ n. drop n e.tickets) i.count ∙ (ap (drop (length i.front)) i.tickets ∙ drop-front i.front i.back)
+  pub taken : All (IsTaken h) e.taken
+  pub held : All (IsHeld h) e.state.pending
+  pub rising : IsStrictlyIncreasing (tickets_at e)
 
 -- how often a number stands in each part
-times-parts : (h : HostState) (e : Endpoint) (i : InOrder h e) (t : ℕ) → times t e.tickets ≡ times t i.front + times t i.back
-times-parts h e i t = ap (times t) i.tickets ∙ times-append t i.front i.back
-
-times-pending : (h : HostState) (e : Endpoint) (i : InOrder h e) (t : ℕ) → times t e.tickets ≡ times t i.front + times t (pending e)
-times-pending h e i t = times-parts h e i t ∙ ap (λ l. times t i.front + times t l) (sym (pending-back h e i))
-
-pub order-few : (h : HostState) (e : Endpoint) → InOrder h e → e.taken ≤ length e.tickets
-order-few h e i = let all = ap (λ (l : List ℕ). length l) i.tickets in omega (arith, all, i.count, length-append i.front i.back)
+pub times-parts : (e : Endpoint) (t : ℕ) → times t (tickets_at e) ≡ times t e.taken + times t e.state.pending
+times-parts e t = times-append t e.taken e.state.pending
 
 -- a held or taken ticket is so still
 pub record Stays (old new : HostState) (t : ℕ) : Type 0 where
@@ -86,16 +64,11 @@ pub held-stays : (old new : HostState) (t : ℕ) → Stays old new t → IsHeld 
 held-stays old new t stays was = record { hold = was.hold; is = stays.held was.hold was.is }
 
 -- so the order stays where all tickets of the endpoint do
-pub order-stays : (old new : HostState) (e : Endpoint) → ((t : ℕ) → 1 ≤ times t e.tickets → Stays old new t) → InOrder old e → InOrder new e
+pub order-stays : (old new : HostState) (e : Endpoint) → ((t : ℕ) → 1 ≤ times t (tickets_at e) → Stays old new t) → InOrder old e → InOrder new e
 order-stays old new e stays i =
     record {
-      front = i.front;
-      back = i.back;
-      tickets = i.tickets;
-      count = i.count;
-      taken = λ k d below. (stays (get_or i.front k d) (omega (arith, times-parts old e i (get_or i.front k d), stands i.front k d below))).taken (i.taken k d below);
-      held = λ k d below.
-          held-stays old new (get_or i.back k d) (stays (get_or i.back k d) (omega (arith, times-parts old e i (get_or i.back k d), stands i.back k d below))) (i.held k d below);
+      taken = λ k d below. let t = get_or e.taken k d in (stays t (omega (arith, times-parts e t, stands e.taken k d below))).taken (i.taken k d below);
+      held = λ k d below. let t = get_or e.state.pending k d in held-stays old new t (stays t (omega (arith, times-parts e t, stands e.state.pending k d below))) (i.held k d below);
       rising = i.rising;
     }
 
@@ -103,27 +76,20 @@ pub order-keeps : (old new : HostState) (e : Endpoint) → KeepsTickets old new 
 order-keeps old new e keeps i = order-stays old new e (λ t stands_. stays-keeps old new t keeps) i
 
 -- an endpoint with no ticket
-pub order-fresh : (h : HostState) (e : Endpoint) → e.tickets ≡ [] → e.taken ≡ 0 → InOrder h e
-order-fresh h e none zero_ =
+pub order-fresh : (h : HostState) (e : Endpoint) → e.state.pending ≡ [] → e.taken ≡ [] → InOrder h e
+order-fresh h e none fresh =
     record {
-      front = [];
-      back = [];
-      tickets = none;
-      count = zero_;
-      taken = All-nil (IsTaken h);
-      held = All-nil (IsHeld h);
-      rising = subst IsStrictlyIncreasing (sym none) (λ k within. absurd (omega arith));
+      taken = subst (λ ts. All (IsTaken h) ts) (sym fresh) (All-nil (IsTaken h));
+      held = subst (λ ts. All (IsHeld h) ts) (sym none) (All-nil (IsHeld h));
+      rising = subst IsStrictlyIncreasing (sym (ap (λ ts. ts ++ e.state.pending) fresh ∙ none)) (λ k within. absurd (omega arith));
     }
 
 -- all tickets of an endpoint are of the host
-part-within : (h : HostState) (xs : List ℕ) (k d : ℕ) → k < length xs → All (IsTaken h) xs ⊎ All (IsHeld h) xs → get_or xs k d < length h.tickets
-part-within h xs k d below (inl taken) = slice_get_within h.tickets (get_or xs k d) (Ended Taken) (taken k d below)
-part-within h xs k d below (inr held) = let was = held k d below in slice_get_within h.tickets (get_or xs k d) (HeldBy was.hold) was.is
-
-pub order-within : (h : HostState) (e : Endpoint) → InOrder h e → All (λ t. t < length h.tickets) e.tickets
+pub order-within : (h : HostState) (e : Endpoint) → InOrder h e → All (λ t. t < length h.tickets) (tickets_at e)
 order-within h e i =
-    subst (λ l. All (λ t. t < length h.tickets) l) (sym i.tickets)
-    (All-append (λ t. t < length h.tickets) i.front i.back (λ k d below. part-within h i.front k d below (inl i.taken)) (λ k d below. part-within h i.back k d below (inr i.held)))
+    All-append (λ t. t < length h.tickets) e.taken e.state.pending
+    (λ k d below. slice_get_within h.tickets (get_or e.taken k d) (Ended Taken) (i.taken k d below))
+    (λ k d below. let was = i.held k d below in slice_get_within h.tickets (get_or e.state.pending k d) (HeldBy was.hold) was.is)
 
 rising-push : (xs : List ℕ) (n : ℕ) → All (λ t. t < n) xs → IsStrictlyIncreasing xs → IsStrictlyIncreasing (xs ++ n ∷ [])
 rising-push xs n small rising k within =
@@ -149,71 +115,44 @@ rising-push xs n small rising k within =
     get_or-seam (x ∷ xs) n d = get_or-seam xs n d
 
 -- one more ticket
-pub order-push : (h : HostState) (e : Endpoint) (n : ℕ) → All (λ t. t < n) e.tickets → IsHeld h n → InOrder h e → InOrder h (with_submission n e)
+pub order-push : (h : HostState) (e : Endpoint) (n : ℕ) → All (λ t. t < n) (tickets_at e) → IsHeld h n → InOrder h e → InOrder h (with_submission n e)
 order-push h e n small new i =
     record {
-      front = i.front;
-      back = i.back ++ n ∷ [];
-      tickets = ap (λ l. l ++ n ∷ []) i.tickets ∙ append_assoc i.front i.back (n ∷ []);
-      count = i.count;
       taken = i.taken;
-      held = All-push (IsHeld h) i.back n i.held new;
-      rising = rising-push e.tickets n small i.rising;
+      held = All-push (IsHeld h) e.state.pending n i.held new;
+      rising = subst IsStrictlyIncreasing (append_assoc e.taken e.state.pending (n ∷ [])) (rising-push (tickets_at e) n small i.rising);
     }
 
--- the ticket at the place of those that were taken is taken
-at-seam : (xs ys : List ℕ) → slice_get (xs ++ ys) (length xs) ≡ slice_get ys 0
-at-seam [] ys = refl
-at-seam (x ∷ xs) ys = at-seam xs ys
+-- the oldest pending ticket is taken
+pub front-tickets : (e : Endpoint) (t : ℕ) (ts : List ℕ) → e.state.pending ≡ t ∷ ts → tickets_at (front_taken t e) ≡ tickets_at e
+front-tickets e t ts front =
+    append_assoc e.taken (t ∷ []) (drop 1 e.state.pending) ∙ (ap (λ us. e.taken ++ t ∷ drop 1 us) front ∙ sym (ap (λ us. e.taken ++ us) front))
 
-front-back : (h : HostState) (e : Endpoint) (t : ℕ) (i : InOrder h e) → slice_get e.tickets e.taken ≡ Some t → slice_get i.back 0 ≡ Some t
-front-back h e t i at =
-    sym (at-seam i.front i.back) ∙ (sym (ap (slice_get (i.front ++ i.back)) i.count) ∙ (sym (ap (λ l. slice_get l e.taken) i.tickets) ∙ at))
+pub front-held : (h : HostState) (e : Endpoint) (t : ℕ) (ts : List ℕ) → InOrder h e → e.state.pending ≡ t ∷ ts → IsHeld h t
+front-held h e t ts i front = All-head (IsHeld h) t ts (subst (λ us. All (IsHeld h) us) front i.held)
 
-first-held : (h : HostState) (t : ℕ) (back : List ℕ) → All (IsHeld h) back → slice_get back 0 ≡ Some t → IsHeld h t
-first-held h t [] held at = absurd (none-some t at)
-first-held h t (u ∷ us) held at = subst (IsHeld h) (same_Some u t at) (All-head (IsHeld h) u us held)
+-- it stands once in the list, and so it is neither among those that were taken nor among the rest
+front-once : (e : Endpoint) (t : ℕ) (ts : List ℕ) → e.state.pending ≡ t ∷ ts → times t (tickets_at e) ≡ times t e.taken + (1 + times t ts)
+front-once e t ts front = times-parts e t ∙ ap (λ us. times t e.taken + times t us) front ∙ ap (λ n. times t e.taken + (n + times t ts)) (one-same t)
 
-pub front-held : (h : HostState) (e : Endpoint) (t : ℕ) → InOrder h e → slice_get e.tickets e.taken ≡ Some t → IsHeld h t
-front-held h e t i at = first-held h t i.back i.held (front-back h e t i at)
-
-first-stands : (t : ℕ) (back : List ℕ) → slice_get back 0 ≡ Some t → 1 ≤ times t back
-first-stands t [] at = absurd (none-some t at)
-first-stands t (u ∷ us) at = let here : one t u ≡ 1 = ap (one t) (same_Some u t at) ∙ one-same t in omega arith
-
-pub front-stands : (h : HostState) (e : Endpoint) (t : ℕ) → InOrder h e → slice_get e.tickets e.taken ≡ Some t → 1 ≤ times t e.tickets
-front-stands h e t i at = let parts = times-parts h e i t in let here = first-stands t i.back (front-back h e t i at) in omega arith
+pub front-stands : (e : Endpoint) (t : ℕ) (ts : List ℕ) → e.state.pending ≡ t ∷ ts → 1 ≤ times t (tickets_at e)
+front-stands e t ts front = let once = front-once e t ts front in omega arith
 
 others-stay : (h : HostState) (t u : ℕ) → u ≢ t → Stays h (host_taken h t) u
 others-stay h t u apart = stays-same h (host_taken h t) u (taken-others h t u apart)
 
-takes-by : (h : HostState) (t : ℕ) (front back : List ℕ) → times t front + times t back ≤ 1 → slice_get back 0 ≡ Some t → All (IsTaken h) front → All (IsHeld h) back
-    → (rest : List ℕ) × (back ≡ t ∷ rest) × All (IsTaken (host_taken h t)) (front ++ t ∷ []) × All (IsHeld (host_taken h t)) rest
-takes-by h t front [] once at taken held = absurd (none-some t at)
-takes-by h t front (u ∷ us) once at taken held =
-    let same = same_Some u t at in
-    let here : one t u ≡ 1 = ap (one t) same ∙ one-same t in
-    let was = first-held h t (u ∷ us) held at in
-    let before = apart-all t front (omega arith) in
-    let behind = apart-all t us (omega arith) in (
-      us,
-      ap (λ v. v ∷ us) same,
-      All-push (IsTaken (host_taken h t)) front t (λ k d below. (others-stay h t (get_or front k d) (before k d below)).taken (taken k d below)) (taken-here h t was.hold was.is),
-      λ k d below. held-stays h (host_taken h t) (get_or us k d) (others-stay h t (get_or us k d) (behind k d below)) (All-tail (IsHeld h) u us held k d below),
-    )
-
-pub order-takes : (h : HostState) (e : Endpoint) (t : ℕ) → times t e.tickets ≤ 1 → slice_get e.tickets e.taken ≡ Some t → InOrder h e → InOrder (host_taken h t) (one_taken e)
-order-takes h e t once at i =
-    let parts = times-parts h e i t in
-    let new = takes-by h t i.front i.back (omega arith) (front-back h e t i at) i.taken i.held in
+pub order-takes : (h : HostState) (e : Endpoint) (t : ℕ) (ts : List ℕ) → times t (tickets_at e) ≤ 1 → e.state.pending ≡ t ∷ ts → InOrder h e → InOrder (host_taken h t) (front_taken t e)
+order-takes h e t ts once front i =
+    let last = host_taken h t in
+    let parts = front-once e t ts front in
+    let was = front-held h e t ts i front in
+    let before = apart-all t e.taken (omega arith) in
+    let behind = apart-all t ts (omega arith) in
+    let rest = All-tail (IsHeld h) t ts (subst (λ us. All (IsHeld h) us) front i.held) in
     record {
-      front = i.front ++ t ∷ [];
-      back = new.0;
-      tickets = i.tickets ∙ (ap (λ l. i.front ++ l) new.1 ∙ sym (append_assoc i.front (t ∷ []) new.0));
-      count = omega (arith, i.count, length-append i.front (t ∷ []));
-      taken = new.2;
-      held = new.3;
-      rising = i.rising;
+      taken = All-push (IsTaken last) e.taken t (λ k d below. (others-stay h t (get_or e.taken k d) (before k d below)).taken (i.taken k d below)) (taken-here h t was.hold was.is);
+      held = subst (λ us. All (IsHeld last) (drop 1 us)) (sym front) (λ k d below. held-stays h last (get_or ts k d) (others-stay h t (get_or ts k d) (behind k d below)) (rest k d below));
+      rising = subst IsStrictlyIncreasing (sym (front-tickets e t ts front)) i.rising;
     }
 
 -- the close of an endpoint: its pending tickets are given up, and all others stay
@@ -353,15 +292,11 @@ goes-left h e held =
 abbrev pub WasGiven : List Event → ℕ → Option HostTicket → Type 0
 WasGiven past t o = GivenUp past t o ⊎ ((is_some (completion past t) ≡ false) × (o ≡ Some (Ended Reclaimed)))
 
--- of an endpoint that was closed the first tickets were taken, and the others given up
+-- of an endpoint that was closed the pending tickets were given up, and the others taken
 pub record IsClosed (h : HostState) (e : Endpoint) (past : List Event) : Type 0 where
-  pub front : List ℕ
-  pub back : List ℕ
-  pub tickets : e.tickets ≡ front ++ back
-  pub count : e.taken ≡ length front
-  pub taken : All (IsTaken h) front
-  pub given : All (λ t. WasGiven past t (slice_get h.tickets t)) back
-  pub rising : IsStrictlyIncreasing e.tickets
+  pub taken : All (IsTaken h) e.taken
+  pub given : All (λ t. WasGiven past t (slice_get h.tickets t)) e.state.pending
+  pub rising : IsStrictlyIncreasing (tickets_at e)
 
 pub taken-goes : (o p : Option HostTicket) → Leaves o p → o ≡ Some (Ended Taken) → p ≡ Some (Ended Taken)
 taken-goes o p leaves is = rw is at leaves
@@ -375,32 +310,19 @@ given-goes past t o p leaves (inr reclaimed) = inr (reclaimed.0, rw reclaimed.1 
 pub closed-goes : (old new : HostState) (e : Endpoint) (past : List Event) → LeavesTickets old new → IsClosed old e past → IsClosed new e past
 closed-goes old new e past goes c =
     record {
-      front = c.front;
-      back = c.back;
-      tickets = c.tickets;
-      count = c.count;
-      taken = λ k d below. let t = get_or c.front k d in taken-goes (slice_get old.tickets t) (slice_get new.tickets t) (goes.tickets t) (c.taken k d below);
-      given = λ k d below. let t = get_or c.back k d in given-goes past t (slice_get old.tickets t) (slice_get new.tickets t) (goes.tickets t) (c.given k d below);
+      taken = λ k d below. let t = get_or e.taken k d in taken-goes (slice_get old.tickets t) (slice_get new.tickets t) (goes.tickets t) (c.taken k d below);
+      given = λ k d below. let t = get_or e.state.pending k d in given-goes past t (slice_get old.tickets t) (slice_get new.tickets t) (goes.tickets t) (c.given k d below);
       rising = c.rising;
     }
 
-pub pending-all : (h : HostState) (e : Endpoint) (i : InOrder h e) → All (IsHeld h) (pending e)
-pending-all h e i = subst (λ l. All (IsHeld h) l) (sym (pending-back h e i)) i.held
-
-pub closed-order : (h : HostState) (e : Endpoint) → ((t : ℕ) → times t e.tickets ≤ 1) → InOrder h e → IsClosed (left_by h (endpoint_state e)) e h.kernel.past
+pub closed-order : (h : HostState) (e : Endpoint) → ((t : ℕ) → times t (tickets_at e) ≤ 1) → InOrder h e → IsClosed (left_by h e.state) e h.kernel.past
 closed-order h e once i =
     record {
-      front = i.front;
-      back = i.back;
-      tickets = i.tickets;
-      count = i.count;
-      taken = λ k d below.
-          let t = get_or i.front k d in
-          left-apart h (endpoint_state e) t (omega (arith, once t, times-pending h e i t, stands i.front k d below)) ∙ i.taken k d below;
+      taken = λ k d below. let t = get_or e.taken k d in left-apart h e.state t (omega (arith, once t, times-parts e t, stands e.taken k d below)) ∙ i.taken k d below;
       given = λ k d below.
-          let t = get_or i.back k d in
+          let t = get_or e.state.pending k d in
           let was = i.held k d below in
-          inl (left-given h (endpoint_state e) t was.hold (omega (arith, once t, times-parts h e i t, times-pending h e i t, stands i.back k d below)) was.is);
+          inl (left-given h e.state t was.hold (omega (arith, once t, times-parts e t, stands e.state.pending k d below)) was.is);
       rising = i.rising;
     }
 
@@ -419,18 +341,11 @@ given-within past ts t (inl (dropped reaped is)) = slice_get_within ts t (Ended 
 given-within past ts t (inl (waits key open_ is)) = slice_get_within ts t (Abandoned key) is
 given-within past ts t (inr reclaimed) = slice_get_within ts t (Ended Reclaimed) reclaimed.1
 
-pub closed-few : (h : HostState) (e : Endpoint) (past : List Event) → IsClosed h e past → e.taken ≤ length e.tickets
-closed-few h e past c = let all = ap (λ (l : List ℕ). length l) c.tickets in omega (arith, all, c.count, length-append c.front c.back)
+pub closed-taken : (h : HostState) (e : Endpoint) (past : List Event) → IsClosed h e past → All (λ t. end_at h.tickets t ≡ Some Taken) e.taken
+closed-taken h e past c k d below = ap (option_and_then ended_at) (c.taken k d below)
 
-pub closed-taken : (h : HostState) (e : Endpoint) (past : List Event) → IsClosed h e past → All (λ t. end_at h.tickets t ≡ Some Taken) (take e.taken e.tickets)
-closed-taken h e past c =
-    subst (λ l. All (λ t. end_at h.tickets t ≡ Some Taken) l) (sym (ap (λ n. take n e.tickets) c.count ∙ (ap (take (length c.front)) c.tickets ∙ take-front c.front c.back)))
-    (λ k d below. ap (option_and_then ended_at) (c.taken k d below))
-
-pub closed-others : (h : HostState) (e : Endpoint) (past : List Event) → HasEnds h.tickets → IsClosed h e past → All (λ t. end_at h.tickets t ≡ Some (end_given_up past t)) (drop e.taken e.tickets)
-closed-others h e past ends c =
-    subst (λ l. All (λ t. end_at h.tickets t ≡ Some (end_given_up past t)) l) (sym (ap (λ n. drop n e.tickets) c.count ∙ (ap (drop (length c.front)) c.tickets ∙ drop-front c.front c.back)))
-    (λ k d below.
-    let t = get_or c.back k d in
+pub closed-others : (h : HostState) (e : Endpoint) (past : List Event) → HasEnds h.tickets → IsClosed h e past → All (λ t. end_at h.tickets t ≡ Some (end_given_up past t)) e.state.pending
+closed-others h e past ends c k d below =
+    let t = get_or e.state.pending k d in
     let was = c.given k d below in
-    ended-given past t (slice_get h.tickets t) (ends t (given-within past h.tickets t was)) was)
+    ended-given past t (slice_get h.tickets t) (ends t (given-within past h.tickets t was)) was

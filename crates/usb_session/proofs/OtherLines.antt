@@ -181,9 +181,9 @@ took-leaves line state e t = option-leaves state (transfer_completion state.host
 
 called-leaves : (call : EndpointCall) (state : State) (e : ℕ) (h : Endpoint) → Leaves state (endpoint_called call state e h).state
 called-leaves endpoints.Pending state e h = (refl, refl)
-called-leaves endpoints.Poll state e h = option-leaves state (slice_get h.tickets h.taken) (poll_on state e) (refl, refl) (took-leaves polled_line state e)
+called-leaves endpoints.Poll state e h = option-leaves state (slice_get h.state.pending 0) (poll_on state e) (refl, refl) (took-leaves polled_line state e)
 called-leaves (endpoints.Wait timeout) state e h =
-    option-leaves state (slice_get h.tickets h.taken) (wait_on state e timeout) (refl, refl) (λ t. took-leaves waited_line (with_host state (waited host_calls t timeout state.host)) e t)
+    option-leaves state (slice_get h.state.pending 0) (wait_on state e timeout) (refl, refl) (λ t. took-leaves waited_line (with_host state (waited host_calls t timeout state.host)) e t)
 called-leaves endpoints.Cancel state e h = (refl, refl)
 called-leaves endpoints.ClearHalt state e h = (refl, refl)
 called-leaves call state e h = bar-leaves state _ _ (refl, refl)

@@ -1,4 +1,4 @@
--- A poll answers for the ticket at its endpoint's place.
+-- A poll answers for its endpoint's oldest pending ticket.
 use Rattle.std.proofs.Common.{◌≡◌, ℕ, [], Option, Some, None, refl}
 use Rattle.usb_xfer.specs.declared.transfer.Completion.{Completion}
 use Rattle.usb_kernel.specs.TransferCompletions.{transfer_completion}

@@ -32,11 +32,10 @@ use Rattle.usb_session_calls.specs.declared.call.OpenCall.TheVariants as opens
 use Rattle.usb_session_calls.specs.declared.call.CloseCall.TheVariants as closes
 use Rattle.usb_session_calls.specs.declared.call.ReaderCall.{ReaderCall}
 use Rattle.usb_session_calls.specs.declared.call.ReaderCall.TheVariants as readers
-use Rattle.usb_session_calls.specs.BareReaders.{bare_of}
-use Rattle.usb_session_calls.specs.State.{State, Endpoint, Reader, pending, endpoint_state, state_of_reader, tickets_of, with_host}
+use Rattle.usb_session_calls.specs.State.{State, Endpoint, Reader, tickets_at, tickets_of, with_host}
 use Rattle.usb_session_calls.specs.Answer.{Answer, answer_with, condition_answer, ok_answer}
 use Rattle.usb_session_calls.specs.Submits.{has_direction}
-use Rattle.usb_session_calls.specs.Readers.{nothing_consumed, as_streamed, with_reader, reader_on, reader_answer, without_reader, inner_answer, called_endpoint, called, with_count, with_timeout, with_none, num_on, timeout_on, cancel_reader_on, closed_reader, close_reader_answer}
+use Rattle.usb_session_calls.specs.Readers.{nothing_consumed, with_reader, reader_on, reader_answer, without_reader, inner_answer, taken_by_call, called, with_count, with_timeout, with_none, num_on, timeout_on, cancel_reader_on, closed_reader, close_reader_answer}
 use Rattle.usb_session_calls.specs.Reads.{is_until_short, consumed_with, bars_read, given_line, polled_given_line, read_as, filled_as, read_on, fill_on, read_off, consume_on, consume_end_on}
 use Rattle.usb_session_calls.specs.Steps.{with_steps, steps_applied, then_applied}
 use Rattle.usb_session_calls.specs.CalledReaders.{reader_called, on_reader}
@@ -52,23 +51,22 @@ use Rattle.usb_session.proofs.StreamsKeep.{EachOpen, none-open, left-keeps, one-
 
 -- a reader as it is made of an endpoint
 abbrev pub made_of : Endpoint → ℕ → Reader
-made_of h size =
-    record { endpoint = as_streamed h; bare = bare_of (fresh_reader (endpoint_state h) size); before = take h.taken h.tickets; given = []; consumed = nothing_consumed h.tickets }
+made_of h size = record { state = fresh_reader h.state size; before = h.taken; taken = []; given = []; consumed = nothing_consumed (tickets_at h) }
 
 -- one of which so many transfers are to be pending, and whose waits have this timeout
 abbrev pub set_to : ℕ → ℕ → Reader → Reader
-set_to n timeout x = record x { bare = record x.bare { n = n; timeout = timeout } }
+set_to n timeout x = record x { state = record x.state { n = n; timeout = timeout } }
 
 -- one off which items were taken, by what the call left of it
 abbrev pub off_at : Framing → List Mark → List ℕ → ReaderState → Reader → Reader
-off_at framing items bytes left x = record x { bare = bare_of left; given = x.given ++ bytes; consumed = consumed_with framing items x.consumed }
+off_at framing items bytes left x = record x { state = left; given = x.given ++ bytes; consumed = consumed_with framing items x.consumed }
 
 -- and one behind a call
 abbrev pub called_at : State → Option (List Mark) → List ℕ → Reading HostState → Reader → Reader
 called_at state now bytes w x =
     record x {
-      endpoint = called_endpoint (tickets_of state) (tickets_of (with_host state w.bus)) w.reader.endpoint.pending x.endpoint;
-      bare = bare_of w.reader;
+      state = w.reader;
+      taken = x.taken ++ taken_by_call (tickets_of state) (tickets_of (with_host state w.bus)) x.state.endpoint.pending w.reader.endpoint.pending;
       given = x.given ++ bytes;
       consumed = now;
     }
@@ -94,22 +92,22 @@ consumes-none old consumed is = record { within = refl; before = consumed; was =
 
 -- a reader as its calls see it
 abbrev pub reading_at : State → Reader → Reading HostState
-reading_at state x = reading state.host (state_of_reader x)
+reading_at state x = reading state.host x.state
 
 -- what a law says of a reader (At) is true of each as it is made, and stays true of it whatever comes; and each change that calls
 -- make keeps it, where the journal behind it is as the law asks (Legal)
 pub record ReaderLaw (At : List Event → Reader → Type 0) (Legal : List Event → Type 0) : Type 0 where
   pub before : (old new : List Event) → Extends old new → Legal new → Legal old
   pub later : (old new : List Event) (x : Reader) → Extends old new → At old x → At new x
-  pub made : (past : List Event) (h : Endpoint) (size : ℕ) → 128 ≤ h.address → At past (made_of h size)
+  pub made : (past : List Event) (h : Endpoint) (size : ℕ) → 128 ≤ h.state.address → At past (made_of h size)
   pub set : (past : List Event) (n timeout : ℕ) (x : Reader) → At past x → At past (set_to n timeout x)
   pub called : (state : State) (call : StreamCall) (now : Option (List Mark)) (x : Reader) →
       Consumes (is_framed call) (map Byte (handed_by call (reading_at state x))) x.consumed now →
       Legal (read_by call (reading_at state x)).left.bus.kernel.past → At state.host.kernel.past x →
       At (read_by call (reading_at state x)).left.bus.kernel.past (called_at state now (handed_by call (reading_at state x)) (read_by call (reading_at state x)).left x)
   pub read : (past : List Event) (framing : Framing) (n : ℕ) (x : Reader) → At past x →
-      At past (off_at framing (map Byte (take n x.bare.unread)) (take n x.bare.unread) (with_read n (state_of_reader x)) x)
-  pub ended : (past : List Event) (x : Reader) → is_end (state_of_reader x) ≡ true → At past x → At past (off_at UntilShort (End ∷ []) [] (without_end (state_of_reader x)) x)
+      At past (off_at framing (map Byte (take n x.state.unread)) (take n x.state.unread) (with_read n x.state) x)
+  pub ended : (past : List Event) (x : Reader) → is_end x.state ≡ true → At past x → At past (off_at UntilShort (End ∷ []) [] (without_end x.state) x)
 
 abbrev readers_of : State → List (Option Reader)
 readers_of state = state.readers
@@ -119,8 +117,8 @@ abbrev pub AllReaders : (List Event → Reader → Type 0) → State → Type 0
 AllReaders At state = EachOpen readers_of At state
 
 -- an IN endpoint has such an address
-input-of : (h : Endpoint) → has_direction In (endpoint_state h) ≡ true → 128 ≤ h.address
-input-of h is = elim (cases_Bool (nat_le 128 h.address)) [ inl below ↦ leb-true 128 h.address below | inr other ↦ absurd (let e : same_direction Out In ≡ true = rw other at is in cc) ]
+input-of : (h : Endpoint) → has_direction In h.state ≡ true → 128 ≤ h.state.address
+input-of h is = elim (cases_Bool (nat_le 128 h.state.address)) [ inl below ↦ leb-true 128 h.state.address below | inr other ↦ absurd (let e : same_direction Out In ≡ true = rw other at is in cc) ]
 
 module _ (At : List Event → Reader → Type 0) (Legal : List Event → Type 0) (law : ReaderLaw At Legal) where
   abbrev All : State → Type 0
@@ -144,8 +142,8 @@ module _ (At : List Event → Reader → Type 0) (Legal : List Event → Type 0)
       open-keeps Keeps state (λ legal. f) (named state.endpoints e) (reader_on state r e size) (λ h at.
       let made = with_reader state r e size h in
       let x = made_of h size in
-      free-keeps Keeps state (λ legal. f) (is_free state.readers r) (if has_direction In (endpoint_state h) then ok_answer made else condition_answer state) (λ free.
-      free-keeps Keeps state (λ legal. f) (has_direction In (endpoint_state h)) (ok_answer made) (λ input legal.
+      free-keeps Keeps state (λ legal. f) (is_free state.readers r) (if has_direction In h.state then ok_answer made else condition_answer state) (λ free.
+      free-keeps Keeps state (λ legal. f) (has_direction In h.state) (ok_answer made) (λ input legal.
       one-keeps readers_of At law.later state made (extends-same past) r x (set-changes state.readers r x free) (law.made past h size (input-of h input)) f)))
 
   -- its endpoint comes back
@@ -171,69 +169,69 @@ module _ (At : List Event → Reader → Type 0) (Legal : List Event → Type 0)
         one-keeps readers_of At law.later state (record state { host = host; readers = change_named change state.readers r }) extends r (change x) (change-changes change state.readers r x at) here f
 
     -- what takes transfers or submits them (with so many transfers to be pending, n)
-    called-keep : (n : ℕ) (call : StreamCall) (now : Option (List Mark)) → Consumes (is_framed call) (map Byte (handed_by call (reading_at state (set_to n x.bare.timeout x)))) x.consumed now
-        → Keeps (called state r now (handed_by call (reading_at state (set_to n x.bare.timeout x))) (read_by call (reading_at state (set_to n x.bare.timeout x))).left)
+    called-keep : (n : ℕ) (call : StreamCall) (now : Option (List Mark)) → Consumes (is_framed call) (map Byte (handed_by call (reading_at state (set_to n x.state.timeout x)))) x.consumed now
+        → Keeps (called state r now (handed_by call (reading_at state (set_to n x.state.timeout x))) (read_by call (reading_at state (set_to n x.state.timeout x))).left)
     called-keep n call now consumes legal =
-        let y = set_to n x.bare.timeout x in
+        let y = set_to n x.state.timeout x in
         let w = reading_at state y in
         let left = (read_by call w).left in
         own-keep left.bus (called_at state now (handed_by call w) left) (reader_calls-go_on call w).past
-        (law.called state call now y consumes legal (law.set state.host.kernel.past n x.bare.timeout x (f r x at)))
+        (law.called state call now y consumes legal (law.set state.host.kernel.past n x.state.timeout x (f r x at)))
 
     read-keeps : (framing : Framing) (most timeout : ℕ) (line : Result (List ℕ) ReadFault → List ℕ) → Keeps (read_on state framing r most timeout line x).state
     read-keeps framing most timeout line =
         let a = read_came host_calls (is_until_short framing) timeout most (reading_at state x) in
         let items = map Byte (given_by a.answer) in
         bar-keeps Keeps state (λ legal. f) (bars_read state framing x) (read_as state framing r x line a)
-        (called-keep x.bare.n (Read (is_until_short framing) timeout most) (consumed_with framing items x.consumed) (consumes-with framing items x.consumed))
+        (called-keep x.state.n (Read (is_until_short framing) timeout most) (consumed_with framing items x.consumed) (consumes-with framing items x.consumed))
 
     fill-keeps : (framing : Framing) (timeout : ℕ) (line : Result (List ℕ) ReadFault → List ℕ) → Keeps (fill_on state framing r timeout line x).state
     fill-keeps framing timeout line =
         let a = fill_came host_calls (is_until_short framing) timeout (reading_at state x) in
         bar-keeps Keeps state (λ legal. f) (bars_read state framing x) (filled_as state framing r x line a)
-        (called-keep x.bare.n (Fill (is_until_short framing) timeout) (consumed_with framing [] x.consumed) (consumes-with framing [] x.consumed))
+        (called-keep x.state.n (Fill (is_until_short framing) timeout) (consumed_with framing [] x.consumed) (consumes-with framing [] x.consumed))
 
     num-keeps : (n : ℕ) → Keeps (num_on state r n x).state
     num-keeps n =
-        let left = filled_to host_calls (n - 1) (reading state.host (with_count n (state_of_reader x))) in
-        bar-keeps Keeps state (λ legal. f) (nat_lt 64 n || bars_need state.host.kernel.past (length (pending x.endpoint)) (n - 1 - length (pending x.endpoint))) (ok_answer (called state r x.consumed [] left))
+        let left = filled_to host_calls (n - 1) (reading state.host (with_count n x.state)) in
+        bar-keeps Keeps state (λ legal. f) (nat_lt 64 n || bars_need state.host.kernel.past (length x.state.endpoint.pending) (n - 1 - length x.state.endpoint.pending)) (ok_answer (called state r x.consumed [] left))
         (called-keep n (Submit (n - 1)) x.consumed (consumes-none x.consumed))
 
     -- what takes off what stands
     off-keep : (framing : Framing) (items : List Mark) (bytes : List ℕ) (left : ReaderState) → At state.host.kernel.past (off_at framing items bytes left x) → All (read_off state framing r x items bytes left)
     off-keep framing items bytes left here =
-        own-keep state.host (λ y. record y { bare = bare_of left; given = y.given ++ bytes; consumed = consumed_with framing items x.consumed }) (extends-same state.host.kernel.past) here
+        own-keep state.host (λ y. record y { state = left; given = y.given ++ bytes; consumed = consumed_with framing items x.consumed }) (extends-same state.host.kernel.past) here
 
     consume-keeps : (framing : Framing) (n : ℕ) → Keeps (consume_on state framing r n x).state
     consume-keeps framing n =
-        let bytes = take n x.bare.unread in
-        let left = with_read n (state_of_reader x) in
-        bar-keeps Keeps state (λ legal. f) (nat_lt (length x.bare.unread) n) (ok_answer (read_off state framing r x (map Byte bytes) bytes left))
+        let bytes = take n x.state.unread in
+        let left = with_read n x.state in
+        bar-keeps Keeps state (λ legal. f) (nat_lt (length x.state.unread) n) (ok_answer (read_off state framing r x (map Byte bytes) bytes left))
         (λ legal. off-keep framing (map Byte bytes) bytes left (law.read state.host.kernel.past framing n x (f r x at)))
 
     consume_end-keeps : Keeps (consume_end_on state r x).state
     consume_end-keeps =
-        let left = without_end (state_of_reader x) in
-        cond_both (is_end (state_of_reader x)) (answer_with (read_off state UntilShort r x (End ∷ []) [] left) (consumed_end_line (Ok tt))) (answer_with state (consumed_end_line (Err (record {})))) (λ (a : Answer). Keeps a.state)
+        let left = without_end x.state in
+        cond_both (is_end x.state) (answer_with (read_off state UntilShort r x (End ∷ []) [] left) (consumed_end_line (Ok tt))) (answer_with state (consumed_end_line (Err (record {})))) (λ (a : Answer). Keeps a.state)
         (λ is legal. off-keep UntilShort (End ∷ []) [] left (law.ended state.host.kernel.past x is (f r x at)))
         (λ no_ legal. f)
 
     -- what sets its timeout, and what cancels
     timeout-keeps : (timeout : ℕ) → Keeps (timeout_on state r timeout).state
-    timeout-keeps timeout legal = own-keep state.host (with_timeout timeout) (extends-same state.host.kernel.past) (law.set state.host.kernel.past x.bare.n timeout x (f r x at))
+    timeout-keeps timeout legal = own-keep state.host (with_timeout timeout) (extends-same state.host.kernel.past) (law.set state.host.kernel.past x.state.n timeout x (f r x at))
 
     cancel-keeps : Keeps (cancel_reader_on state r x).state
     cancel-keeps legal =
         let old = state.host.kernel.past in
-        let host = all_discarded host_discarded state.host (pending x.endpoint) in
-        let extends = (on-all_discarded state.host (pending x.endpoint)).past in
-        own-keep host with_none extends (law.set host.kernel.past 0 x.bare.timeout x (law.later old host.kernel.past x extends (f r x at)))
+        let host = all_discarded host_discarded state.host x.state.endpoint.pending in
+        let extends = (on-all_discarded state.host x.state.endpoint.pending).past in
+        own-keep host with_none extends (law.set host.kernel.past 0 x.state.timeout x (law.later old host.kernel.past x extends (f r x at)))
 
     -- each call on it
     reader_called-keeps : (call : ReaderCall) → Keeps (reader_called call state r x).state
-    reader_called-keeps (readers.Read framing most) = read-keeps framing most x.bare.timeout (given_line read_line)
+    reader_called-keeps (readers.Read framing most) = read-keeps framing most x.state.timeout (given_line read_line)
     reader_called-keeps (readers.PollRead framing most) = read-keeps framing most 0 (polled_given_line read_line)
-    reader_called-keeps (readers.FillBuf framing) = fill-keeps framing x.bare.timeout (given_line buffer_line)
+    reader_called-keeps (readers.FillBuf framing) = fill-keeps framing x.state.timeout (given_line buffer_line)
     reader_called-keeps (readers.PollFillBuf framing) = fill-keeps framing 0 (polled_given_line buffer_line)
     reader_called-keeps (readers.Consume framing n) = consume-keeps framing n
     reader_called-keeps readers.IsEnd = λ legal. f

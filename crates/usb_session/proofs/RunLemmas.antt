@@ -1,5 +1,5 @@
 -- A session at its beginning.
-use Rattle.std.proofs.Common.{◌≡◌, ℕ, ◌≤◌, arith, List, [], length, map, replicate, Option, Some, None, true, false, refl, ap, sym, ◌∙◌, subst}
+use Rattle.std.proofs.Common.{◌≡◌, ℕ, arith, List, [], map, replicate, Option, Some, None, true, false, refl, ap, sym, ◌∙◌, subst}
 use Rattle.std.specs.Prelude.{max}
 use Rattle.std.specs.Option.{option_map}
 use Rattle.std.proofs.lemmas.List.{length-replicate}
@@ -24,7 +24,7 @@ use Rattle.usb_session_calls.specs.Names.{named}
 use Rattle.usb_io.specs.Readers.{ReaderState}
 use Rattle.usb_io.specs.Writers.{WriterState}
 use Rattle.usb_session_calls.specs.EndpointNames.{EndpointName, Own, OfReader, OfWriter, held_under, endpoint_under}
-use Rattle.usb_session_calls.specs.State.{Endpoint, Reader, Writer}
+use Rattle.usb_session_calls.specs.State.{endpoint_of_reader, endpoint_of_writer}
 use Rattle.usb_session.specs.Output.{devices_of, start}
 use Rattle.usb_session_calls.specs.SessionState.{SessionState, IsSound, open_under}
 use Rattle.usb_session_calls.specs.SessionParts.{session_made}
@@ -53,7 +53,7 @@ none-held of_reader of_writer n (OfWriter w) = ap (option_map of_writer) (named-
 
 pub none-start : (items : List Item) (e : EndpointName) → endpoint_under (start items) e ≡ None
 unfolding start
-none-start items e = none-held (λ (x : Reader). x.endpoint) (λ (x : Writer). x.endpoint) 64 e
+none-start items e = none-held endpoint_of_reader endpoint_of_writer 64 e
 
 pub no-future_start : (items : List Item) (n : ℕ) → named (start items).futures n ≡ None
 unfolding start
@@ -122,17 +122,10 @@ empty-start : (items : List Item) → empty_session (tree_of items) (packets_of 
 unfolding start
 empty-start items = refl
 
-few-start : (items : List Item) (e : EndpointName) (h : Endpoint) → endpoint_under (start items) e ≡ Some h → h.taken ≤ length h.tickets
-few-start items e h is = absurd (none-some h (sym (none-start items e) ∙ is))
-
 pub represents-start : (items : List Item) (t : Tree) (p : List UdevPacket) (host : HostState) (ds : List (Option ℕ)) (is : List (Option InterfaceState)) (es : List (Option EndpointState)) (rs : List (Option ReaderState)) (ws : List (Option WriterState)) (fs : List (Option FutureState)) → host ≡ (start items).host → ds ≡ replicate 64 None → is ≡ replicate 64 None → es ≡ replicate 64 None → rs ≡ replicate 64 None → ws ≡ replicate 64 None → fs ≡ replicate 64 None → t ≡ tree_of items → p ≡ packets_of items → Represents (session_made t p host ds is es rs ws fs) (start items)
 represents-start items t p host ds is es rs ws fs start_ d i e q w f known left =
-    record {
-      is =
-          made-empty t p host ds is es rs ws fs d i e q w f ∙ ap (empty_session t p) start_ ∙ ap (λ s. empty_session s p (start items).host) known
-          ∙ ap (λ l. empty_session (tree_of items) l (start items).host) left ∙ empty-start items;
-      few = few-start items;
-    }
+    made-empty t p host ds is es rs ws fs d i e q w f ∙ ap (empty_session t p) start_ ∙ ap (λ s. empty_session s p (start items).host) known
+    ∙ ap (λ l. empty_session (tree_of items) l (start items).host) left ∙ empty-start items
 
 spare-of_start : (items : List Item) → (start items).host.kernel.spare ≡ place_count items
 unfolding start

@@ -1,5 +1,5 @@
 -- What a call makes of the order of tickets and of their places.
-use Rattle.std.proofs.Common.{ℕ, zero, suc, arith, ◌≡◌, ◌<◌, ◌≢◌, ◌≤◌, ◌+◌, true, List, [], ◌∷◌, ◌++◌, map, length, drop, slice_get, Option, Some, None, inl, inr, refl, sym, ◌∙◌, ap, subst, append-nil}
+use Rattle.std.proofs.Common.{ℕ, zero, suc, arith, ◌≡◌, ◌<◌, ◌≢◌, ◌≤◌, ◌+◌, true, List, [], ◌∷◌, ◌++◌, map, length, slice_get, Option, Some, None, inl, inr, refl, sym, ◌∙◌, ap, subst, append-nil}
 use Rattle.std.specs.Prelude.{All}
 use Rattle.std.specs.List.Sorted.{IsStrictlyIncreasing}
 use Rattle.std.proofs.lemmas.Bool.{cases_eq}
@@ -23,22 +23,21 @@ use Rattle.usb_session_calls.specs.declared.call.Call.{Call}
 use Rattle.usb_session_calls.specs.Calls.{call_of}
 use Rattle.usb_session_calls.specs.Names.{named, is_free, freed, set_name}
 use Rattle.usb_session_calls.specs.EndpointNames.{EndpointName, Own, endpoint_under}
-use Rattle.usb_session_calls.specs.State.{State, Endpoint, endpoint_state, tickets_of, with_host}
+use Rattle.usb_session_calls.specs.State.{State, Endpoint, tickets_at, tickets_of, with_host}
 use Rattle.usb_session_calls.specs.Answer.{Answer}
-use Rattle.usb_session_calls.specs.Polls.{one_taken}
+use Rattle.usb_session_calls.specs.Polls.{front_taken}
 use Rattle.usb_session_calls.specs.Submits.{with_submission}
 use Rattle.usb_session.specs.Futures.{with_future}
 use Rattle.usb_session.specs.Below.{below, given_below}
 use Rattle.usb_session.specs.Ends.{future_closed_under}
 use Rattle.usb_session.specs.Answers.{answer}
-use Rattle.usb_session.specs.Accounts.{TookFew}
 use Rattle.usb_session.specs.ControlAnswers.{listed}
 use Rattle.usb_session.specs.Served.{ClosedEndpoint, tickets_of_all, closed_under, closed_by, control_ticket_by, control_ticket}
 use Rattle.usb_session_calls.proofs.NameLemmas.{named-freed, named-freed_other, named-set, named-set_other}
 use Rattle.usb_session_calls.proofs.EndpointNameLemmas.{Changed, changed-back, changed-gone}
 use Rattle.usb_session.proofs.TimesLemmas.{one, times, times-append, among, among-once, times_open, times_awaited, listed-once, listed-apart, open-change, open-put, open-same, open-one, open-two, awaited-freed, awaited-set, awaited-one}
-use Rattle.usb_session.proofs.OrderLemmas.{IsHeld, Stays, held-stays, stays-keeps, leaves-is, leaves-held, InOrder, order-few, order-stays, order-keeps, order-fresh, order-push, order-within, order-takes, front-held, front-stands, pending-all, stays-same, left_by, LeavesTickets, goes-keeps, goes-then, goes-taken, goes-left, IsClosed, closed-goes, closed-order, left-stays}
-use Rattle.usb_session.proofs.Does.{Quiet, quiet-same, Changes, MovesTo, IsStream, name_counts, Closing, ControlMove, Handed, Parted, handed_of, handed-append, handed-handed, handed-parted, Acts, SameTickets, without_future_of, at-host, goes, opens, submits, fits, reads, starts, controls, frees, ends, takes, closes, moves}
+use Rattle.usb_session.proofs.OrderLemmas.{IsTaken, IsHeld, Stays, held-stays, stays-keeps, leaves-is, leaves-held, InOrder, times-parts, order-stays, order-keeps, order-fresh, order-push, order-within, order-takes, front-tickets, front-held, front-stands, stays-same, left_by, LeavesTickets, goes-keeps, goes-then, goes-taken, goes-left, IsClosed, closed-goes, closed-order, left-stays}
+use Rattle.usb_session.proofs.Does.{Quiet, quiet-same, Changes, MovesTo, IsStream, name_counts, Closing, ControlMove, Handed, Parted, handed_of, handed-append, handed-handed, handed-parted, Acts, SameTickets, without_future_of, at-host, goes, opens, submits, reads, starts, controls, frees, ends, takes, closes, moves}
 use Rattle.usb_session.proofs.ControlLines.{parted_by, control_moves, moves_parting, future_closed_under-does}
 use Rattle.usb_session.proofs.EveryLine.{answer-does}
 
@@ -66,7 +65,7 @@ pub closes-on : (old new : HostState) (xs : List ClosedEndpoint) → LeavesTicke
 closes-on old new xs leaves all k d below = closed-goes old new _ _ leaves (all k d below)
 
 pub all-tickets : (t : ℕ) (xs ys : List ClosedEndpoint) → times t (tickets_of_all (xs ++ ys)) ≡ times t (tickets_of_all xs) + times t (tickets_of_all ys)
-all-tickets t xs ys = ap (times t) (flat_map-append (λ (h : ClosedEndpoint). h.endpoint.tickets) xs ys) ∙ times-append t (tickets_of_all xs) (tickets_of_all ys)
+all-tickets t xs ys = ap (times t) (flat_map-append (λ (h : ClosedEndpoint). tickets_at h.endpoint) xs ys) ∙ times-append t (tickets_of_all xs) (tickets_of_all ys)
 
 pub step-then : {a b c : State} {xs ys : List ClosedEndpoint} {us vs : List ℕ} → Step a b xs us → Step b c ys vs → Step a c (xs ++ ys) (us ++ vs)
 step-then {a} {b} {c} {xs} {ys} {us} {vs} first second =
@@ -94,11 +93,11 @@ waits-keeps : (state : State) (host : HostState) → Inv state → KeepsTickets 
 waits-keeps state host inv keeps n f t is ticket = held-stays state.host host t (stays-keeps state.host host t keeps) (inv.waits n f t is ticket)
 
 -- each ticket stands once at most
-stands-once : (state : State) (e : EndpointName) (h : Endpoint) (t : ℕ) → Inv state → endpoint_under state e ≡ Some h → times t h.tickets ≤ 1
+stands-once : (state : State) (e : EndpointName) (h : Endpoint) (t : ℕ) → Inv state → endpoint_under state e ≡ Some h → times t (tickets_at h) ≤ 1
 stands-once state e h t inv here =
     let most = open-one t state e h here in let all = inv.once t in let few = among-once t (tickets_of state) in omega arith
 
-apart-two : (state : State) (d e : EndpointName) (g h : Endpoint) (t : ℕ) → Inv state → d ≢ e → endpoint_under state d ≡ Some g → endpoint_under state e ≡ Some h → times t g.tickets + times t h.tickets ≤ 1
+apart-two : (state : State) (d e : EndpointName) (g h : Endpoint) (t : ℕ) → Inv state → d ≢ e → endpoint_under state d ≡ Some g → endpoint_under state e ≡ Some h → times t (tickets_at g) + times t (tickets_at h) ≤ 1
 apart-two state d e g h t inv apart first second =
     let most = open-two t state d e g h apart first second in let all = inv.once t in let few = among-once t (tickets_of state) in omega arith
 
@@ -150,86 +149,83 @@ step-quiet {state} {next} inv quiet =
     (λ t. let same = open-same t state next quiet.names quiet.endpoints in let b = among-kept quiet.count t in omega arith) (All-nil (Closes next.host))
 
 -- an endpoint is opened
-pub step-open : {state next : State} (e : ℕ) (x : Endpoint) → Inv state → endpoint_under state (Own e) ≡ None → x.tickets ≡ [] → x.taken ≡ 0 → Changes state next state.host (Own e) (Some x) → Step state next [] []
-step-open {state} e x inv free none zero_ changes =
+pub step-open : {state next : State} (e : ℕ) (x : Endpoint) → Inv state → endpoint_under state (Own e) ≡ None → x.state.pending ≡ [] → x.taken ≡ [] → Changes state next state.host (Own e) (Some x) → Step state next [] []
+step-open {state} e x inv free none fresh changes =
     at-host (λ s. Step state s [] []) changes
     (step-by inv changes.futures changes.names (goes-keeps state.host state.host (on-same state.host))
-    (put-all (Ordered state.host) changes.endpoints (order-fresh state.host x none zero_) (λ d g apart is. inv.order d g is))
+    (put-all (Ordered state.host) changes.endpoints (order-fresh state.host x none fresh) (λ d g apart is. inv.order d g is))
     (put-all WasRead changes.endpoints (λ stream. absurd stream) (λ d g apart is. inv.read d g is))
     inv.waits inv.count
-    (λ t. let put = open-put t changes x free refl in let empty : times t x.tickets ≡ 0 = ap (times t) none in omega arith) (All-nil (Closes state.host)))
+    (λ t. let put = open-put t changes x free refl in let parts = times-parts x t in let first : times t x.taken ≡ 0 = ap (times t) fresh in let rest : times t x.state.pending ≡ 0 = ap (times t) none in omega arith) (All-nil (Closes state.host)))
 
 -- a ticket is submitted
-pub step-push : {state next : State} (e : EndpointName) (b : BufferState) (h : Endpoint) → Inv state → endpoint_under state e ≡ Some h → Changes state next (entered host_calls state.host (endpoint_state h) b) e (Some (with_submission (tickets_of state) h)) → Step state next [] []
+pub step-push : {state next : State} (e : EndpointName) (b : BufferState) (h : Endpoint) → Inv state → endpoint_under state e ≡ Some h → Changes state next (entered host_calls state.host h.state b) e (Some (with_submission (tickets_of state) h)) → Step state next [] []
 step-push {state} e b h inv here changes =
     let n = tickets_of state in
-    let host = entered host_calls state.host (endpoint_state h) b in
-    let adds = adds-entered state.host (endpoint_state h) b in
-    let count = entered-count state.host (endpoint_state h) b in
+    let host = entered host_calls state.host h.state b in
+    let adds = adds-entered state.host h.state b in
+    let count = entered-count state.host h.state b in
     let many : length (tickets host.kernel.past) ≡ suc n = omega (arith, count.past) in
     let new : IsHeld host n = record { hold = adds.hold; is = ap (slice_get host.tickets) (sym inv.count) ∙ adds.last } in
     at-host (λ s. Step state s [] []) changes
     (step-by inv changes.futures changes.names (goes-keeps state.host host adds.goes)
     (put-all (Ordered host) changes.endpoints
-    (order-push host h n (subst (λ m. All (λ u. u < m) h.tickets) inv.count (order-within state.host h (inv.order e h here))) new (order-keeps state.host host h adds.goes (inv.order e h here)))
+    (order-push host h n (subst (λ m. All (λ u. u < m) (tickets_at h)) inv.count (order-within state.host h (inv.order e h here))) new (order-keeps state.host host h adds.goes (inv.order e h here)))
     (λ d g apart is. order-keeps state.host host g adds.goes (inv.order d g is)))
     (put-all WasRead changes.endpoints (inv.read e h here) (λ d g apart is. inv.read d g is))
     (waits-keeps state host inv adds.goes) (count.count ∙ omega (arith, inv.count, many))
     (λ t.
     let change = open-change t changes h here in
-    let pushed = times-append t h.tickets (n ∷ []) in
+    let parts = times-parts h t in
+    let now = times-parts (with_submission n h) t in
+    let pushed = times-append t h.state.pending (n ∷ []) in
     let below : among t (length (tickets host.kernel.past)) ≡ one t n + among t n = ap (among t) many in omega arith) (All-nil (Closes host)))
 
--- the ticket at the place of those that were taken is taken
-pub step-take : {state next : State} (e : EndpointName) (t : ℕ) (h : Endpoint) → Inv state → endpoint_under state e ≡ Some h → slice_get h.tickets h.taken ≡ Some t → Changes state next (host_taken state.host t) e (Some (one_taken h)) → Step state next [] []
-step-take {state} e t h inv here front changes =
+-- the oldest pending ticket is taken
+pub step-take : {state next : State} (e : EndpointName) (t : ℕ) (ts : List ℕ) (h : Endpoint) → Inv state → endpoint_under state e ≡ Some h → h.state.pending ≡ t ∷ ts → Changes state next (host_taken state.host t) e (Some (front_taken t h)) → Step state next [] []
+step-take {state} e t ts h inv here front changes =
     let host = host_taken state.host t in
     let count = taken-count state.host t in
-    let stands = front-stands state.host h t (inv.order e h here) front in
+    let stands = front-stands h t ts front in
     at-host (λ s. Step state s [] []) changes
-    (step-by inv changes.futures changes.names (goes-taken state.host t (front-held state.host h t (inv.order e h here) front))
-    (put-all (Ordered host) changes.endpoints (order-takes state.host h t (stands-once state e h t inv here) front (inv.order e h here))
+    (step-by inv changes.futures changes.names (goes-taken state.host t (front-held state.host h t ts (inv.order e h here) front))
+    (put-all (Ordered host) changes.endpoints (order-takes state.host h t ts (stands-once state e h t inv here) front (inv.order e h here))
     (λ d g apart is.
     let few = apart-two state d e g h t inv apart is here in
-    order-stays state.host host g (λ u there. stays-same state.host host u (taken-others state.host t u (λ same. let moved : times u g.tickets ≡ times t g.tickets = ap (λ v. times v g.tickets) same in absurd (omega arith)))) (inv.order d g is)))
+    order-stays state.host host g (λ u there. stays-same state.host host u (taken-others state.host t u (λ same. let moved : times u (tickets_at g) ≡ times t (tickets_at g) = ap (λ v. times v (tickets_at g)) same in absurd (omega arith)))) (inv.order d g is)))
     (put-all WasRead changes.endpoints (inv.read e h here) (λ d g apart is. inv.read d g is))
     (λ n f u is ticket.
     held-stays state.host host u (stays-same state.host host u (taken-others state.host t u (λ same.
     let none = awaited-apart state n f u inv is ticket in
-    let moved : times u h.tickets ≡ times t h.tickets = ap (λ v. times v h.tickets) same in
+    let moved : times u (tickets_at h) ≡ times t (tickets_at h) = ap (λ v. times v (tickets_at h)) same in
     let most = open-one u state e h here in absurd (omega arith)))) (inv.waits n f u is ticket))
     (count.count ∙ inv.count ∙ sym count.past)
-    (λ u. let change = open-change u changes h here in let b = among-kept count u in omega arith) (All-nil (Closes host)))
+    (λ u. let change = open-change u changes h here in let same = ap (times u) (front-tickets h t ts front) in let b = among-kept count u in omega arith) (All-nil (Closes host)))
 
 -- an endpoint is closed
-times-drop : (n : ℕ) (xs : List ℕ) (u : ℕ) → times u (drop n xs) ≤ times u xs
-times-drop zero xs u = omega arith
-times-drop (suc n) [] u = omega arith
-times-drop (suc n) (x ∷ xs) u = let IH = times-drop n xs u in omega arith
-
-pub step-close : {state next : State} (e : EndpointName) (h : Endpoint) (lines : List (List ℕ)) → Inv state → endpoint_under state e ≡ Some h → Changes state next (left_by state.host (endpoint_state h)) e None → Step state next (record { endpoint = h; past = state.host.kernel.past; lines = lines } ∷ []) []
+pub step-close : {state next : State} (e : EndpointName) (h : Endpoint) (lines : List (List ℕ)) → Inv state → endpoint_under state e ≡ Some h → Changes state next (left_by state.host h.state) e None → Step state next (record { endpoint = h; past = state.host.kernel.past; lines = lines } ∷ []) []
 step-close {state} e h lines inv here changes =
-    let host = left_by state.host (endpoint_state h) in
-    let count = closed-count state.host (endpoint_state h) in
+    let host = left_by state.host h.state in
+    let count = closed-count state.host h.state in
     let handle : ClosedEndpoint = record { endpoint = h; past = state.host.kernel.past; lines = lines } in
     at-host (λ s. Step state s (handle ∷ []) []) changes
-    (step-by inv changes.futures changes.names (goes-left state.host (endpoint_state h) (pending-all state.host h (inv.order e h here)))
+    (step-by inv changes.futures changes.names (goes-left state.host h.state (inv.order e h here).held)
     (gone-all (Ordered host) changes.endpoints (λ d g apart is.
     order-stays state.host host g (λ u there.
     let few = apart-two state d e g h u inv apart is here in
-    let part = times-drop h.taken h.tickets u in
-    left-stays state.host (endpoint_state h) u (omega arith)) (inv.order d g is)))
+    let parts = times-parts h u in
+    left-stays state.host h.state u (omega arith)) (inv.order d g is)))
     (gone-all WasRead changes.endpoints (λ d g apart is. inv.read d g is))
     (λ n f u is ticket.
     let none = awaited-apart state n f u inv is ticket in
     let most = open-one u state e h here in
-    let part = times-drop h.taken h.tickets u in
-    held-stays state.host host u (left-stays state.host (endpoint_state h) u (omega arith)) (inv.waits n f u is ticket))
+    let parts = times-parts h u in
+    held-stays state.host host u (left-stays state.host h.state u (omega arith)) (inv.waits n f u is ticket))
     (count.count ∙ inv.count ∙ sym count.past)
     (λ u.
     let change = open-change u changes h here in
     let b = among-kept count u in
-    let whole : times u (tickets_of_all (handle ∷ [])) ≡ times u h.tickets = ap (times u) (append-nil h.tickets) in omega arith)
+    let whole : times u (tickets_of_all (handle ∷ [])) ≡ times u (tickets_at h) = ap (times u) (append-nil (tickets_at h)) in omega arith)
     (All-cons (Closes host) handle [] (closed-order state.host h (λ u. stands-once state e h u inv here) (inv.order e h here)) (All-nil (Closes host))))
 
 -- a control transfer is handed in, and its future is open under a name
@@ -319,16 +315,15 @@ step-free state n f host inv here parts =
     }
 
 -- an endpoint goes to another name, which was free
+same-tickets : (h g : Endpoint) → SameTickets h g → tickets_at g ≡ tickets_at h
+same-tickets h g same = ap (λ ts. ts ++ g.state.pending) same.taken ∙ ap (λ ts. h.taken ++ ts) same.pending
+
 order-same : (host : HostState) (h g : Endpoint) → SameTickets h g → InOrder host h → InOrder host g
 order-same host h g same i =
     record {
-      front = i.front;
-      back = i.back;
-      tickets = same.tickets ∙ i.tickets;
-      count = same.taken ∙ i.count;
-      taken = i.taken;
-      held = i.held;
-      rising = subst IsStrictlyIncreasing (sym same.tickets) i.rising;
+      taken = subst (λ ts. All (IsTaken host) ts) (sym same.taken) i.taken;
+      held = subst (λ ts. All (IsHeld host) ts) (sym same.pending) i.held;
+      rising = subst IsStrictlyIncreasing (sym (same-tickets h g same)) i.rising;
     }
 
 pub step-move : {state next : State} (from to : EndpointName) (h g : Endpoint) → Inv state → endpoint_under state from ≡ Some h → endpoint_under state to ≡ None → SameTickets h g → ((IsStream from → h.was_streamed ≡ true) → g.was_streamed ≡ true) → MovesTo state next from to g → Step state next [] []
@@ -343,27 +338,23 @@ step-move {state} from to h g inv here free same read moved =
     (λ t.
     let gone = open-change t moved.gone h here in
     let put = open-put t moved.put g (moved.gone.endpoints.others to apart ∙ free) refl in
-    let all : times t g.tickets ≡ times t h.tickets = ap (times t) same.tickets in omega arith) (All-nil (Closes host)))
+    let all : times t (tickets_at g) ≡ times t (tickets_at h) = ap (times t) (same-tickets h g same) in omega arith) (All-nil (Closes host)))
 
 -- so is what an answer does
-pub acts-step : {few : Type 0} {a : Answer} {state : State} {closed : List ClosedEndpoint} {handed : List ControlMove} → few → Acts few a state closed handed → Inv state → Step state a.state closed (handed_of handed)
-acts-step few (goes quiet rest) inv = let first = step-quiet inv quiet in step-then first (acts-step few rest first.inv)
-acts-step few (fits other rest) inv = acts-step few (rest few) inv
-acts-step few (reads e t h stream here front other changes rest) inv = let first = step-take e t h inv here front changes in step-then first (acts-step few rest first.inv)
-acts-step few (moves from to h g here free same read other moved quiet) inv = let first = step-move from to h g inv here free same read moved in step-after first (step-quiet first.inv quiet)
-acts-step few (opens e x free none zero_ changes rest) inv = let first = step-open e x inv free none zero_ changes in step-then first (acts-step few rest first.inv)
-acts-step few (submits e b h here within changes rest) inv = let first = step-push e b h inv here changes in step-then first (acts-step few rest first.inv)
-acts-step {state} few (starts n request timeout device free rest) inv = let first = step-start state n request timeout device inv free in step-then first (acts-step few rest first.inv)
-acts-step {state} few (controls host one adds rest) inv = let first = step-control state host inv one (adds inv.count) in step-then first (acts-step few rest first.inv)
-acts-step {a} {state} {closed} few (frees {handed = moves_} n f host here parts rest) inv =
+pub acts-step : {a : Answer} {state : State} {closed : List ClosedEndpoint} {handed : List ControlMove} → Acts a state closed handed → Inv state → Step state a.state closed (handed_of handed)
+acts-step (goes quiet rest) inv = let first = step-quiet inv quiet in step-then first (acts-step rest first.inv)
+acts-step (reads e t ts h stream here front other changes rest) inv = let first = step-take e t ts h inv here front changes in step-then first (acts-step rest first.inv)
+acts-step (moves from to h g here free same read other moved quiet) inv = let first = step-move from to h g inv here free same read moved in step-after first (step-quiet first.inv quiet)
+acts-step (opens e x free none fresh changes rest) inv = let first = step-open e x inv free none fresh changes in step-then first (acts-step rest first.inv)
+acts-step (submits e b h here changes rest) inv = let first = step-push e b h inv here changes in step-then first (acts-step rest first.inv)
+acts-step {state} (starts n request timeout device free rest) inv = let first = step-start state n request timeout device inv free in step-then first (acts-step rest first.inv)
+acts-step {state} (controls host one adds rest) inv = let first = step-control state host inv one (adds inv.count) in step-then first (acts-step rest first.inv)
+acts-step {a} {state} {closed} (frees {handed = moves_} n f host here parts rest) inv =
     let first = step-free state n f host inv here parts in
-    subst (Step state a.state closed) (sym (handed-parted (listed f.ticket) moves_)) (step-then first (acts-step few rest first.inv))
-acts-step few (ends other quiet) inv = step-quiet inv quiet
-acts-step few (takes e t h c here front came line changes quiet) inv = let first = step-take e t h inv here (front few) changes in step-after first (step-quiet first.inv quiet)
-acts-step few (closes e h lines here other changes quiet) inv = let first = step-close e h lines inv here changes in step-after first (step-quiet first.inv quiet)
-
-pub few-taken : (state : State) → Inv state → TookFew state
-few-taken state inv e h is = order-few state.host h (inv.order e h is)
+    subst (Step state a.state closed) (sym (handed-parted (listed f.ticket) moves_)) (step-then first (acts-step rest first.inv))
+acts-step (ends other quiet) inv = step-quiet inv quiet
+acts-step (takes e t ts h c here front came line changes quiet) inv = let first = step-take e t ts h inv here front changes in step-after first (step-quiet first.inv quiet)
+acts-step (closes e h lines here other changes quiet) inv = let first = step-close e h lines inv here changes in step-after first (step-quiet first.inv quiet)
 
 pub handed-moves : (state : State) (call : Call) (a : Answer) → handed_of (control_moves state call a) ≡ control_ticket_by state call a
 handed-moves state call a =
@@ -374,7 +365,7 @@ handed-moves state call a =
 pub answer-step : (state : State) (lines : EndpointName → List (List ℕ)) (item : Item) → Inv state → Step state (answer state item).state (closed_by state lines item) (control_ticket state item)
 answer-step state lines item inv =
     let a = answer state item in
-    subst (Step state a.state (closed_by state lines item)) (handed-moves state (call_of item) a) (acts-step (few-taken state inv) (answer-does state lines item) inv)
+    subst (Step state a.state (closed_by state lines item)) (handed-moves state (call_of item) a) (acts-step (answer-does state lines item) inv)
 
 pub none-handed : (o : Option FutureState) → handed_of (moves_parting o) ≡ []
 none-handed None = refl
@@ -382,7 +373,7 @@ none-handed (Some f) = handed-parted (listed f.ticket) []
 
 pub future_closed-step : (state : State) (n : ℕ) → Inv state → Step state (future_closed_under state n) [] []
 future_closed-step state n inv =
-    subst (Step state (future_closed_under state n) []) (none-handed (named state.futures n)) (acts-step {few = Unit {0}} tt (future_closed_under-does state n) inv)
+    subst (Step state (future_closed_under state n) []) (none-handed (named state.futures n)) (acts-step (future_closed_under-does state n) inv)
 
 -- and what the end does below a number
 pub below-step : (act : State → ℕ → State) (name : ℕ → EndpointName) → Closing act name → (state : State) (lines : EndpointName → List (List ℕ)) (k : ℕ) → Inv state
@@ -390,4 +381,4 @@ pub below-step : (act : State → ℕ → State) (name : ℕ → EndpointName) �
 below-step act name closing state lines zero inv = step-quiet inv (quiet-same state)
 below-step act name closing state lines (suc k) inv =
     let first = below-step act name closing state lines k inv in
-    step-then first (acts-step tt (closing (below act state k) k lines) first.inv)
+    step-then first (acts-step (closing (below act state k) k lines) first.inv)

@@ -13,7 +13,7 @@ use Rattle.usb_session_calls.specs.declared.call.ReaderCall.{ReaderCall}
 use Rattle.usb_session_calls.specs.declared.call.ReaderCall.TheVariants as readers
 use Rattle.usb_session_calls.specs.declared.call.WriterCall.{WriterCall}
 use Rattle.usb_session_calls.specs.declared.call.WriterCall.TheVariants as writers
-use Rattle.usb_session_calls.specs.State.{State, Reader, Writer, endpoint_state, state_of_reader}
+use Rattle.usb_session_calls.specs.State.{State, Reader, Writer}
 use Rattle.usb_session_calls.specs.Answer.{Answer, condition_answer, ok_answer}
 use Rattle.usb_session_calls.specs.Submits.{has_direction}
 use Rattle.usb_session_calls.specs.Readers.{with_reader, reader_on, reader_answer, inner_answer, close_reader_answer}
@@ -35,8 +35,8 @@ unfolding writer_answer
 writer-leaves state w e size =
     open-keeps (SameReaders state) state refl (named state.endpoints e) (writer_on state w e size) (λ h is.
     let made = ok_answer (with_writer state w e size h) in
-    free-keeps (SameReaders state) state refl (is_free state.writers w) (if has_direction Out (endpoint_state h) then made else condition_answer state) (λ free.
-    free-keeps (SameReaders state) state refl (has_direction Out (endpoint_state h)) made (λ output. refl)))
+    free-keeps (SameReaders state) state refl (is_free state.writers w) (if has_direction Out h.state then made else condition_answer state) (λ free.
+    free-keeps (SameReaders state) state refl (has_direction Out h.state) made (λ output. refl)))
 
 writer_inner-leaves : (state : State) (e w : ℕ) → SameReaders state (writer_inner_answer state e w).state
 unfolding writer_inner_answer
@@ -73,8 +73,8 @@ unfolding reader_answer
 reader-leaves state r e size =
     open-keeps (SameWriters state) state refl (named state.endpoints e) (reader_on state r e size) (λ h is.
     let made = ok_answer (with_reader state r e size h) in
-    free-keeps (SameWriters state) state refl (is_free state.readers r) (if has_direction In (endpoint_state h) then made else condition_answer state) (λ free.
-    free-keeps (SameWriters state) state refl (has_direction In (endpoint_state h)) made (λ input. refl)))
+    free-keeps (SameWriters state) state refl (is_free state.readers r) (if has_direction In h.state then made else condition_answer state) (λ free.
+    free-keeps (SameWriters state) state refl (has_direction In h.state) made (λ input. refl)))
 
 reader_inner-leaves : (state : State) (e r : ℕ) → SameWriters state (inner_answer state e r).state
 unfolding inner_answer
@@ -87,7 +87,7 @@ reader_close-leaves state r = open-keeps (SameWriters state) state refl (named s
 -- calls on a reader
 reader_called-leaves : (call : ReaderCall) (state : State) (r : ℕ) (x : Reader) → SameWriters state (reader_called call state r x).state
 reader_called-leaves readers.IsEnd state r x = refl
-reader_called-leaves readers.ConsumeEnd state r x = cond_both (is_end (state_of_reader x)) _ _ (λ (a : Answer). SameWriters state a.state) (λ is. refl) (λ no_. refl)
+reader_called-leaves readers.ConsumeEnd state r x = cond_both (is_end x.state) _ _ (λ (a : Answer). SameWriters state a.state) (λ is. refl) (λ no_. refl)
 reader_called-leaves (readers.SetReadTimeout timeout) state r x = refl
 reader_called-leaves readers.Cancel state r x = refl
 reader_called-leaves call state r x = bar-keeps (SameWriters state) state refl _ _ refl

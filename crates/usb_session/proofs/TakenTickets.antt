@@ -1,14 +1,14 @@
--- The tickets of an endpoint behind a call that took the first of them.
-use Rattle.std.proofs.Common.{◌≡◌, ◌∙◌, ℕ, ◌-◌, arith, List, ◌++◌, length, take, drop, take-append-drop, append_assoc, length-append, ap, sym}
-use Rattle.std.proofs.Math.Seq.{take-append_seam, drop-append_seam}
+-- What a call took of an endpoint, by what is pending behind it.
+use Rattle.std.proofs.Common.{◌≡◌, ◌∙◌, ℕ, ◌-◌, arith, List, ◌++◌, length, take, length-append, ap}
+use Rattle.std.proofs.Math.Seq.{take-append_seam}
+use Rattle.usb_session_streams.specs.Numbers.{numbers_from}
+use Rattle.usb_session_calls.specs.Readers.{taken_by_call}
 
--- behind a call that took the first of what was pending and of what came, the others are pending
-pub called-parts : (k : ℕ) (ts numbers taken back : List ℕ) → drop k ts ++ numbers ≡ taken ++ back
-    → (take (length (ts ++ numbers) - length back) (ts ++ numbers) ≡ take k ts ++ taken) × (drop (length (ts ++ numbers) - length back) (ts ++ numbers) ≡ back)
-called-parts k ts numbers taken back came =
-    let all = ts ++ numbers in
-    let front = take k ts ++ taken in
-    let whole : all ≡ front ++ back =
-    ap (λ (l : List ℕ). l ++ numbers) (sym (take-append-drop k ts)) ∙ append_assoc (take k ts) (drop k ts) numbers ∙ ap (λ (l : List ℕ). take k ts ++ l) came ∙ sym (append_assoc (take k ts) taken back) in
-    let count : length all - length back ≡ length front = omega (arith, ap (λ (l : List ℕ). length l) whole, length-append front back) in
-    (ap (λ (n : ℕ). take n all) count ∙ ap (take (length front)) whole ∙ take-append_seam front back, ap (λ (n : ℕ). drop n all) count ∙ ap (drop (length front)) whole ∙ drop-append_seam front back)
+take-first : (xs ys : List ℕ) → take (length (xs ++ ys) - length ys) (xs ++ ys) ≡ xs
+take-first xs ys =
+    let n : length (xs ++ ys) - length ys ≡ length xs = omega (arith, length-append xs ys) in
+    ap (λ k. take k (xs ++ ys)) n ∙ take-append_seam xs ys
+
+-- of what was pending and what came the first were taken, and the others are pending
+pub taken-are : (old new : ℕ) (before after taken : List ℕ) → before ++ numbers_from old (new - old) ≡ taken ++ after → taken_by_call old new before after ≡ taken
+taken-are old new before after taken came = ap (λ (ts : List ℕ). take (length ts - length after) ts) came ∙ take-first taken after

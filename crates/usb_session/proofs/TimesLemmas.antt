@@ -8,7 +8,7 @@ use Rattle.std.proofs.lemmas.List.Elements.{All-nil, All-cons}
 use Rattle.usb_device_host.specs.HostState.{HostState}
 use Rattle.usb_device.specs.Futures.{FutureState}
 use Rattle.usb_session_calls.specs.Names.{named, is_free, freed, set_name}
-use Rattle.usb_session_calls.specs.State.{State, Endpoint, Reader, Writer}
+use Rattle.usb_session_calls.specs.State.{State, Endpoint, tickets_at, endpoint_of_reader, endpoint_of_writer}
 use Rattle.usb_session_calls.specs.EndpointNames.{EndpointName, Own, OfReader, OfWriter, endpoint_under}
 use Rattle.usb_session.specs.ControlAnswers.{listed}
 use Rattle.usb_session_calls.proofs.NameLemmas.{place_of, free-none, free-within}
@@ -117,15 +117,12 @@ abbrev pub times_in : {X : Type 0} → (X → List ℕ) → ℕ → Option X →
 times_in its t None = 0
 times_in its t (Some x) = times t (its x)
 
-abbrev pub tickets_in : Endpoint → List ℕ
-tickets_in h = h.tickets
-
 abbrev pub ticket_in : FutureState → List ℕ
 ticket_in f = listed f.ticket
 
 -- of the endpoints that are open under the first names of a kind
 abbrev of_kind : ℕ → (EndpointName → Option Endpoint) → (ℕ → EndpointName) → ℕ → ℕ
-of_kind t opened name n = sum_below (λ k. times_in tickets_in t (opened (name k))) n
+of_kind t opened name n = sum_below (λ k. times_in tickets_at t (opened (name k))) n
 
 -- and under so many names of each kind
 abbrev times_under : ℕ → NameCounts → (EndpointName → Option Endpoint) → ℕ
@@ -156,19 +153,19 @@ named-within xs n x is = slice_get_within xs n (Some x) (place_of xs n x is)
 pub among-names : (state : State) (e : EndpointName) (h : Endpoint) → endpoint_under state e ≡ Some h → IsAmong (name_counts state) e
 among-names state (Own e) h is = named-within state.endpoints e h is
 among-names state (OfReader r) h is =
-    let x = mapped-some (λ (x : Reader). x.endpoint) (named state.readers r) h is in named-within state.readers r x.0 x.1
+    let x = mapped-some endpoint_of_reader (named state.readers r) h is in named-within state.readers r x.0 x.1
 among-names state (OfWriter w) h is =
-    let x = mapped-some (λ (x : Writer). x.endpoint) (named state.writers w) h is in named-within state.writers w x.0 x.1
+    let x = mapped-some endpoint_of_writer (named state.writers w) h is in named-within state.writers w x.0 x.1
 
 -- where what is open was changed under one name, or under none
 module _ (t : ℕ) (old new : EndpointName → Option Endpoint) where
   kind-same : (name : ℕ → EndpointName) (n : ℕ) → ((k : ℕ) → new (name k) ≡ old (name k)) → of_kind t new name n ≡ of_kind t old name n
   kind-same name n same =
-      sum-same (λ k. times_in tickets_in t (old (name k))) (λ k. times_in tickets_in t (new (name k))) n (λ k below. ap (times_in tickets_in t) (same k))
+      sum-same (λ k. times_in tickets_at t (old (name k))) (λ k. times_in tickets_at t (new (name k))) n (λ k below. ap (times_in tickets_at t) (same k))
 
-  kind-change : (name : ℕ → EndpointName) (n k : ℕ) → k < n → ((j : ℕ) → j ≢ k → new (name j) ≡ old (name j)) → of_kind t new name n + times_in tickets_in t (old (name k)) ≡ of_kind t old name n + times_in tickets_in t (new (name k))
+  kind-change : (name : ℕ → EndpointName) (n k : ℕ) → k < n → ((j : ℕ) → j ≢ k → new (name j) ≡ old (name j)) → of_kind t new name n + times_in tickets_at t (old (name k)) ≡ of_kind t old name n + times_in tickets_at t (new (name k))
   kind-change name n k within others =
-      sum-change (λ j. times_in tickets_in t (old (name j))) (λ j. times_in tickets_in t (new (name j))) n k within (λ j apart. ap (times_in tickets_in t) (others j apart))
+      sum-change (λ j. times_in tickets_at t (old (name j))) (λ j. times_in tickets_at t (new (name j))) n k within (λ j apart. ap (times_in tickets_at t) (others j apart))
 
   same-under : (c : NameCounts) → ((e : EndpointName) → new e ≡ old e) → times_under t c new ≡ times_under t c old
   same-under c same =
@@ -176,7 +173,7 @@ module _ (t : ℕ) (old new : EndpointName → Option Endpoint) where
       let readers = kind-same OfReader c.readers (λ k. same (OfReader k)) in
       let writers = kind-same OfWriter c.writers (λ k. same (OfWriter k)) in omega arith
 
-  changed-under : (c : NameCounts) (e : EndpointName) → IsAmong c e → ((d : EndpointName) → d ≢ e → new d ≡ old d) → times_under t c new + times_in tickets_in t (old e) ≡ times_under t c old + times_in tickets_in t (new e)
+  changed-under : (c : NameCounts) (e : EndpointName) → IsAmong c e → ((d : EndpointName) → d ≢ e → new d ≡ old d) → times_under t c new + times_in tickets_at t (old e) ≡ times_under t c old + times_in tickets_at t (new e)
   changed-under c (Own e) within others =
       let own = kind-change Own c.own e within (λ k apart. others (Own k) (λ same. apart (cc))) in
       let readers = kind-same OfReader c.readers (λ k. others (OfReader k) (λ same. absurd (cc))) in
@@ -192,35 +189,36 @@ module _ (t : ℕ) (old new : EndpointName → Option Endpoint) where
 
 -- by what a state had open there, or has there now
 module _ {old new : State} {host : HostState} {e : EndpointName} {o : Option Endpoint} (t : ℕ) (changes : Changes old new host e o) where
-  open-by : IsAmong (name_counts old) e → times_open t new + times_in tickets_in t (endpoint_under old e) ≡ times_open t old + times_in tickets_in t o
+  open-by : IsAmong (name_counts old) e → times_open t new + times_in tickets_at t (endpoint_under old e) ≡ times_open t old + times_in tickets_at t o
   open-by within =
-      ap (λ c. times_under t c (endpoint_under new) + times_in tickets_in t (endpoint_under old e)) changes.names
+      ap (λ c. times_under t c (endpoint_under new) + times_in tickets_at t (endpoint_under old e)) changes.names
       ∙ changed-under t (endpoint_under old) (endpoint_under new) (name_counts old) e within changes.endpoints.others
-      ∙ ap (λ p. times_open t old + times_in tickets_in t p) changes.endpoints.here
+      ∙ ap (λ p. times_open t old + times_in tickets_at t p) changes.endpoints.here
 
-  pub open-change : (h : Endpoint) → endpoint_under old e ≡ Some h → times_open t new + times t h.tickets ≡ times_open t old + times_in tickets_in t o
-  open-change h was = ap (λ p. times_open t new + times_in tickets_in t p) (sym was) ∙ open-by (among-names old e h was)
+  pub open-change : (h : Endpoint) → endpoint_under old e ≡ Some h → times_open t new + times t (tickets_at h) ≡ times_open t old + times_in tickets_at t o
+  open-change h was = ap (λ p. times_open t new + times_in tickets_at t p) (sym was) ∙ open-by (among-names old e h was)
 
-  pub open-put : (h : Endpoint) → endpoint_under old e ≡ None → o ≡ Some h → times_open t new ≡ times_open t old + times t h.tickets
+  pub open-put : (h : Endpoint) → endpoint_under old e ≡ None → o ≡ Some h → times_open t new ≡ times_open t old + times t (tickets_at h)
   open-put h none some =
       let within = subst (λ c. IsAmong c e) changes.names (among-names new e h (changes.endpoints.here ∙ some)) in
-      let was : times_in tickets_in t (endpoint_under old e) ≡ 0 = ap (times_in tickets_in t) none in
-      let now : times_in tickets_in t o ≡ times t h.tickets = ap (times_in tickets_in t) some in
+      let was : times_in tickets_at t (endpoint_under old e) ≡ 0 = ap (times_in tickets_at t) none in
+      let now : times_in tickets_at t o ≡ times t (tickets_at h) = ap (times_in tickets_at t) some in
       let all = open-by within in omega arith
 
 pub open-same : (t : ℕ) (old new : State) → name_counts new ≡ name_counts old → ((e : EndpointName) → endpoint_under new e ≡ endpoint_under old e) → times_open t new ≡ times_open t old
 open-same t old new names same = ap (λ c. times_under t c (endpoint_under new)) names ∙ same-under t (endpoint_under old) (endpoint_under new) (name_counts old) same
 
 -- what is open under one name, and under two
-one-under : (t : ℕ) (c : NameCounts) (opened : EndpointName → Option Endpoint) (e : EndpointName) → IsAmong c e → times_in tickets_in t (opened e) ≤ times_under t c opened
-one-under t c opened (Own e) within = let most = sum-one (λ k. times_in tickets_in t (opened (Own k))) c.own e within in omega arith
-one-under t c opened (OfReader r) within = let most = sum-one (λ k. times_in tickets_in t (opened (OfReader k))) c.readers r within in omega arith
-one-under t c opened (OfWriter w) within = let most = sum-one (λ k. times_in tickets_in t (opened (OfWriter k))) c.writers w within in omega arith
+one-under : (t : ℕ) (c : NameCounts) (opened : EndpointName → Option Endpoint) (e : EndpointName) → IsAmong c e → times_in tickets_at t (opened e) ≤ times_under t c opened
+one-under t c opened (Own e) within = let most = sum-one (λ k. times_in tickets_at t (opened (Own k))) c.own e within in omega arith
+one-under t c opened (OfReader r) within = let most = sum-one (λ k. times_in tickets_at t (opened (OfReader k))) c.readers r within in omega arith
+one-under t c opened (OfWriter w) within = let most = sum-one (λ k. times_in tickets_at t (opened (OfWriter k))) c.writers w within in omega arith
 
-pub open-one : (t : ℕ) (state : State) (e : EndpointName) (h : Endpoint) → endpoint_under state e ≡ Some h → times t h.tickets ≤ times_open t state
+pub open-one : (t : ℕ) (state : State) (e : EndpointName) (h : Endpoint) → endpoint_under state e ≡ Some h → times t (tickets_at h) ≤ times_open t state
 open-one t state e h is =
-    subst (λ p. times_in tickets_in t p ≤ times_open t state) is (one-under t (name_counts state) (endpoint_under state) e (among-names state e h is))
+    subst (λ p. times_in tickets_at t p ≤ times_open t state) is (one-under t (name_counts state) (endpoint_under state) e (among-names state e h is))
 
+-- nothing is open under a name any more
 emptied : State → EndpointName → State
 emptied state (Own e) = record state { endpoints = freed state.endpoints e }
 emptied state (OfReader r) = record state { readers = freed state.readers r }
@@ -232,7 +230,7 @@ emptied-changes state (Own e) = own-changes state state.host (freed state.endpoi
 emptied-changes state (OfReader r) = reader-changes state state.host (freed state.readers r) r None (freed-changes state.readers r)
 emptied-changes state (OfWriter w) = writer-changes state state.host (freed state.writers w) w None (freed-changes state.writers w)
 
-pub open-two : (t : ℕ) (state : State) (d e : EndpointName) (g h : Endpoint) → d ≢ e → endpoint_under state d ≡ Some g → endpoint_under state e ≡ Some h → times t g.tickets + times t h.tickets ≤ times_open t state
+pub open-two : (t : ℕ) (state : State) (d e : EndpointName) (g h : Endpoint) → d ≢ e → endpoint_under state d ≡ Some g → endpoint_under state e ≡ Some h → times t (tickets_at g) + times t (tickets_at h) ≤ times_open t state
 open-two t state d e g h apart first second =
     let gone = emptied-changes state e in
     let change = open-change t gone h second in
@@ -242,7 +240,7 @@ open-two t state d e g h apart first second =
 pub open-none : (t : ℕ) (state : State) → ((e : EndpointName) → endpoint_under state e ≡ None) → times_open t state ≡ 0
 open-none t state none =
     let c = name_counts state in
-    let kind : (name : ℕ → EndpointName) (n : ℕ) → of_kind t (endpoint_under state) name n ≡ 0 = λ name n. sum-none (λ k. times_in tickets_in t (endpoint_under state (name k))) n (λ k. ap (times_in tickets_in t) (none (name k))) in
+    let kind : (name : ℕ → EndpointName) (n : ℕ) → of_kind t (endpoint_under state) name n ≡ 0 = λ name n. sum-none (λ k. times_in tickets_at t (endpoint_under state (name k))) n (λ k. ap (times_in tickets_at t) (none (name k))) in
     omega (arith, kind Own c.own, kind OfReader c.readers, kind OfWriter c.writers)
 
 -- so with futures

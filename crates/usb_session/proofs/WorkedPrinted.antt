@@ -38,7 +38,7 @@ polled_last = (codes "wait e0 9 : pkt k0 81 03", item.Wait 0 9 (Packet 0 129 (3 
 abbrev before_last : State
 before_last = behind (start (items (back_again ++ polled_last))) (items back_again)
 
-printed_behind_a_reader : ((answer before_last (item.Wait 0 9 (Packet 0 129 (3 ∷ []) ∷ []))).line ≡ with_end (codes "done ok 1 64 03")) × (taken_under before_last (Own 0) ≡ 2) × (was_streamed_under before_last (Own 0) ≡ true)
+printed_behind_a_reader : ((answer before_last (item.Wait 0 9 (Packet 0 129 (3 ∷ []) ∷ []))).line ≡ with_end (codes "done ok 1 64 03")) × (taken_under before_last (Own 0) ≡ 0 ∷ 1 ∷ []) × (was_streamed_under before_last (Own 0) ≡ true)
 unfolding output_on_literals
 printed_behind_a_reader = (refl, refl, refl)
 

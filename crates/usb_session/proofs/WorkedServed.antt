@@ -15,9 +15,10 @@ use Rattle.usb_session.specs.Served.{ClosedEndpoint, closed_endpoints}
 use Rattle.usb_session.proofs.WorkedOutput.{output_on_literals, Line, with_end, items}
 use Rattle.usb_session.proofs.WorkedDevices.{with_endpoint}
 
--- what became of each endpoint of a script: its tickets, how many of them were taken, and the lines that printed these
-abbrev endpoints_of : List Line → List (List ℕ × ℕ × List (List ℕ))
-endpoints_of lines = map (λ (h : ClosedEndpoint). (h.endpoint.tickets, h.endpoint.taken, h.lines)) (closed_endpoints (items lines))
+-- what became of each endpoint of a script: the tickets that were taken, those that were pending at its close, and the lines that
+-- printed the former
+abbrev endpoints_of : List Line → List (List ℕ × List ℕ × List (List ℕ))
+endpoints_of lines = map (λ (h : ClosedEndpoint). (h.endpoint.taken, h.endpoint.state.pending, h.lines)) (closed_endpoints (items lines))
 
 -- two endpoints under one name, the first closed with two tickets; and one whose tickets are polled, cancelled and transferred
 one_name_twice : endpoints_of
@@ -35,8 +36,8 @@ one_name_twice : endpoints_of
     ∷ (codes "submitin e0 64", item.SubmitIn 0 64, codes "ok")
     ∷ (codes "wait e0 9 : pkt k0 81 02 ; reap", item.Wait 0 9 (Packet 0 129 (2 ∷ []) ∷ Reap None ∷ []), codes "done ok 1 64 02")
     ∷ []))
-    ≡ (0 ∷ 1 ∷ [], 1, with_end (codes "done ok 1 64 01") ∷ [])
-    ∷ (2 ∷ 3 ∷ 4 ∷ [], 2, with_end (codes "done cancelled 0 64 -") ∷ with_end (codes "done ok 1 64 02") ∷ [])
+    ≡ (0 ∷ [], 1 ∷ [], with_end (codes "done ok 1 64 01") ∷ [])
+    ∷ (2 ∷ 3 ∷ [], 4 ∷ [], with_end (codes "done cancelled 0 64 -") ∷ with_end (codes "done ok 1 64 02") ∷ [])
     ∷ []
 unfolding output_on_literals closed_endpoints
 one_name_twice = refl

@@ -1,11 +1,10 @@
 -- The tickets of writers' endpoints tell of their calls, where these alone used them.
-use Rattle.std.proofs.Common.{◌≡◌, ◌∙◌, ℕ, ◌+◌, ◌-◌, ◌*◌, ◌/◌, ◌<◌, true, List, [], ◌∷◌, ◌++◌, take, drop, take-append-drop, Option, Some, None, Result, refl, ap, sym, subst, inl, inr}
+use Rattle.std.proofs.Common.{◌≡◌, ◌∙◌, ℕ, ◌+◌, ◌-◌, ◌*◌, ◌/◌, ◌<◌, true, List, [], ◌∷◌, ◌++◌, Option, Some, None, Result, refl, ap, sym, subst, inl, inr}
 use Rattle.std.specs.Prelude.{All, nat_le, if◌then◌else◌}
 use Rattle.std.specs.Option.{option_map}
 use Rattle.std.proofs.lemmas.Bool.{cases_Bool, leb-false}
 use Rattle.std.proofs.lemmas.List.Elements.{All-nil, All-append}
 use Rattle.std.proofs.lemmas.Option.{none-some, same_Some}
-use Rattle.std.proofs.Math.Seq.{take-nil, drop-nil}
 use Rattle.usb_desc.specs.declared.types.Direction.TheVariants.{In, Out}
 use Rattle.usb_xfer.specs.declared.error.TransferError.{TransferError}
 use Rattle.usb_kernel.specs.declared.event.Event.{Event}
@@ -18,13 +17,12 @@ use Rattle.usb_device_host.specs.HostCalls.{host_calls}
 use Rattle.usb_device_host.proofs.FollowLemmas.{on-rest}
 use Rattle.usb_io.specs.declared.fault.WriteFault.{WriteFault}
 use Rattle.usb_io.specs.Readers.{rounded}
-use Rattle.usb_io.specs.Writers.{WriterState, Writing, fresh_writer}
+use Rattle.usb_io.specs.Writers.{Writing, fresh_writer}
 use Rattle.usb_io.specs.Writes.{Call, Flush, Finish}
-use Rattle.usb_io.specs.Carried.{AllCarry, WriterHistory, nothing_written, Tells, written_calls, begun_calls}
+use Rattle.usb_io.specs.Carried.{WriterHistory, Tells, written_calls, begun_calls}
 use Rattle.usb_io.specs.Answered.{Answered}
 use Rattle.usb_io.specs.WriteAnswers.{write_came, flush_came, flush_end_came, poll_flush_end_came, submit_came, submit_end_came}
 use Rattle.usb_io.proofs.CarriedLaws.{fresh_tells, later_tells}
-use Rattle.usb_session_streams.specs.Numbers.{numbers_from}
 use Rattle.usb_session_streams.specs.WriterCalls.{WriterGoesOn}
 use Rattle.usb_session_streams.specs.Told.{WriterCalls, no_calls, with_calls, failures_of, failures_at, IsComplete, CallTells, WriterCall as StreamCall, Write, FlushAll, FlushEnd, PollFlushEnd, Submit, SubmitEnd, left_by, counts_as, failures_by}
 use Rattle.usb_session_streams.proofs.WritesGoOn.{writer_calls-go_on}
@@ -41,12 +39,11 @@ use Rattle.usb_session_calls.specs.declared.call.OpenCall.TheVariants as opens
 use Rattle.usb_session_calls.specs.declared.call.CloseCall.TheVariants as closes
 use Rattle.usb_session_calls.specs.declared.call.WriterCall.{WriterCall}
 use Rattle.usb_session_calls.specs.declared.call.WriterCall.TheVariants as writers
-use Rattle.usb_session_calls.specs.BareWriters.{bare_writer, writer_with}
-use Rattle.usb_session_calls.specs.State.{State, Endpoint, Writer, endpoint_state, state_of_writer, tickets_of, with_host}
-use Rattle.usb_session.specs.WrittenScripts.{IsWritten, ScriptsAreWritten, written_by}
+use Rattle.usb_session_calls.specs.State.{State, Endpoint, Writer, tickets_at, tickets_of, with_host}
+use Rattle.usb_session.specs.WrittenScripts.{IsWritten, ScriptsAreWritten}
 use Rattle.usb_session_calls.specs.Answer.{Answer, answer_with, condition_answer, ok_answer}
 use Rattle.usb_session_calls.specs.Submits.{has_direction}
-use Rattle.usb_session_calls.specs.Readers.{as_streamed, called_endpoint}
+use Rattle.usb_session_calls.specs.Readers.{taken_by_call}
 use Rattle.usb_session_calls.specs.Writers.{nothing_called, with_writer, writer_on, writer_answer, without_writer, writer_inner_answer, with_transfers, with_write_timeout, closed_writer, close_writer_answer}
 use Rattle.usb_session_calls.specs.Writes.{writing_at, left_by_writer, called_as, write_on, flush_as, finish_as}
 use Rattle.usb_session_calls.specs.Steps.{with_steps, steps_applied, then_applied}
@@ -57,26 +54,23 @@ use Rattle.usb_session.specs.Output.{start, behind}
 use Rattle.usb_session.specs.Behind.{ScriptsGoOn}
 use Rattle.usb_session.proofs.Crowds.{over-line}
 use Rattle.usb_session.proofs.LinesBehind.{past_of, behind-keeps}
-use Rattle.usb_session.proofs.TakenTickets.{called-parts}
+use Rattle.usb_session.proofs.TakenTickets.{taken-are}
 use Rattle.usb_session.proofs.Barred.{bar-keeps, free-keeps, open-keeps}
 use Rattle.usb_session.proofs.StreamsLeave.{leaves-writers}
 use Rattle.usb_session.proofs.StreamsKeep.{EachOpen, none-open, left-keeps, one-keeps, gone-keeps}
 
--- the tickets that were taken of an endpoint, and with them what its writer did
-abbrev pub taken_of : Endpoint → List ℕ
-taken_of h = take h.taken h.tickets
-
-abbrev pub history_of : Endpoint → WriterCalls → WriterHistory
-history_of h c = record { taken = taken_of h; calls = c.accepted }
+-- the tickets that were taken of a writer's endpoint, and its accepted calls
+abbrev pub history_of : Writer → WriterCalls → WriterHistory
+history_of x c = record { taken = x.taken; calls = c.accepted }
 
 -- the tickets of an OUT endpoint tell of its writer's accepted calls, those that were taken are complete, and failed as the calls
 -- answered, and transfers are of whole packets
 pub record TellsAt (past : List Event) (x : Writer) (c : WriterCalls) : Type 0 where
-  pub output : x.endpoint.address < 128
-  pub whole : (more : ℕ) × ((more + 1) * x.endpoint.maximum ≡ x.bare.size)
-  pub tells : Tells past (state_of_writer x) (history_of x.endpoint c)
-  pub complete : All (IsComplete past) (taken_of x.endpoint)
-  pub failed : failures_at past (taken_of x.endpoint) ≡ c.failures
+  pub output : x.state.endpoint.address < 128
+  pub whole : (more : ℕ) × ((more + 1) * x.state.endpoint.maximum ≡ x.state.size)
+  pub tells : Tells past x.state (history_of x c)
+  pub complete : All (IsComplete past) x.taken
+  pub failed : failures_at past x.taken ≡ c.failures
 
 -- so do those of a writer that alone used its endpoint
 abbrev IsTelling : List Event → Writer → Type 0
@@ -84,14 +78,7 @@ IsTelling past x = (c : WriterCalls) → x.calls ≡ Some c → TellsAt past x c
 
 -- which says what was written
 is-written : (past : List Event) (x : Writer) (c : WriterCalls) → TellsAt past x c → IsWritten past x c
-is-written past x c f =
-    record {
-      transfers =
-          subst (λ (ts : List ℕ). AllCarry past x.endpoint.device x.endpoint.address x.endpoint.maximum ts (written_by x c).transfers) (take-append-drop x.endpoint.taken x.endpoint.tickets)
-          f.tells.carries.0;
-      standing = f.tells.stands;
-      failures = f.failed;
-    }
+is-written past x c f = record { transfers = f.tells.carries.0; standing = f.tells.stands; failures = f.failed }
 
 -- whatever comes
 pub at-later : (old new : List Event) (x : Writer) (c : WriterCalls) → Extends old new → TellsAt old x c → TellsAt new x c
@@ -99,46 +86,40 @@ at-later old new x c extends f =
     record {
       output = f.output;
       whole = f.whole;
-      tells = later_tells old new (state_of_writer x) (history_of x.endpoint c) extends f.tells;
-      complete = complete-later old new (taken_of x.endpoint) extends f.complete;
-      failed = failures-later old new (taken_of x.endpoint) extends f.complete ∙ f.failed;
+      tells = later_tells old new x.state (history_of x c) extends f.tells;
+      complete = complete-later old new x.taken extends f.complete;
+      failed = failures-later old new x.taken extends f.complete ∙ f.failed;
     }
 
 later : (old new : List Event) (x : Writer) → Extends old new → IsTelling old x → IsTelling new x
 later old new x extends f c is = at-later old new x c extends (f c is)
 
--- the same tickets, and the same calls
-tells-as : (past : List Event) (w : WriterState) (h : WriterHistory) (taken : List ℕ) (calls : List Call) → taken ≡ h.taken → calls ≡ h.calls → Tells past w h → Tells past w (record { taken = taken; calls = calls })
-tells-as past w h taken calls same alike tells = rw (same, alike) tells
-
 -- a writer is made
-nothing-is : (ts : List ℕ) (c : WriterCalls) → nothing_called ts ≡ Some c → (ts ≡ []) × (c ≡ no_calls)
-nothing-is [] c is = (refl, sym (same_Some no_calls c is))
-nothing-is (t ∷ ts) c is = absurd (none-some c is)
+nothing-is : (taken pending : List ℕ) (c : WriterCalls) → nothing_called (taken ++ pending) ≡ Some c → (taken ≡ []) × (pending ≡ []) × (no_calls ≡ c)
+nothing-is [] [] c is = (refl, refl, same_Some no_calls c is)
+nothing-is [] (t ∷ ts) c is = absurd (none-some c is)
+nothing-is (t ∷ ts) pending c is = absurd (none-some c is)
 
-output-of : (h : Endpoint) → has_direction Out (endpoint_state h) ≡ true → h.address < 128
-output-of h is = elim (cases_Bool (nat_le 128 h.address)) [ inl below ↦ absurd (let e : same_direction In Out ≡ true = rw below at is in cc) | inr other ↦ leb-false 128 h.address other ]
+output-of : (h : Endpoint) → has_direction Out h.state ≡ true → h.state.address < 128
+output-of h is =
+    elim (cases_Bool (nat_le 128 h.state.address)) [ inl below ↦ absurd (let e : same_direction In Out ≡ true = rw below at is in cc) | inr other ↦ leb-false 128 h.state.address other ]
 
 abbrev made_of : Endpoint → ℕ → Writer
-made_of h size = record { endpoint = as_streamed h; bare = bare_writer (fresh_writer (endpoint_state h) size); calls = nothing_called h.tickets }
+made_of h size = record { state = fresh_writer h.state size; taken = h.taken; calls = nothing_called (tickets_at h) }
 
 -- a transfer size is rounded up to whole packets, at least one
 whole-rounded : (maximum size : ℕ) → (more : ℕ) × ((more + 1) * maximum ≡ rounded maximum size)
 whole-rounded maximum size = ((size - 1) / maximum, refl)
 
-fresh-at : (past : List Event) (h : Endpoint) (size : ℕ) → h.address < 128 → IsTelling past (made_of h size)
+fresh-at : (past : List Event) (h : Endpoint) (size : ℕ) → h.state.address < 128 → IsTelling past (made_of h size)
 fresh-at past h size output c is =
-    let x = made_of h size in
-    let none = nothing-is h.tickets c is in
-    let nothing : taken_of h ≡ [] = ap (take h.taken) none.0 ∙ take-nil h.taken in
+    let none = nothing-is h.taken h.state.pending c is in
     record {
       output = output;
-      whole = whole-rounded h.maximum size;
-      tells =
-          tells-as past (state_of_writer x) nothing_written (taken_of h) c.accepted nothing (ap (λ (d : WriterCalls). d.accepted) none.1)
-          (fresh_tells past (endpoint_state h) size (ap (drop h.taken) none.0 ∙ drop-nil h.taken));
-      complete = subst (λ (ts : List ℕ). All (IsComplete past) ts) (sym nothing) (All-nil (IsComplete past));
-      failed = ap (failures_at past) nothing ∙ sym (ap (λ (d : WriterCalls). d.failures) none.1);
+      whole = whole-rounded h.state.maximum size;
+      tells = rw (none.0, sym none.2) (fresh_tells past h.state size none.1);
+      complete = subst (All (IsComplete past)) (sym none.0) (All-nil (IsComplete past));
+      failed = ap (failures_at past) none.0 ∙ ap (λ (d : WriterCalls). d.failures) none.2;
     }
 
 abbrev writers_of : State → List (Option Writer)
@@ -155,8 +136,8 @@ writer-tell state w e size f =
     open-keeps AllTell state f (named state.endpoints e) (writer_on state w e size) (λ h at.
     let made = with_writer state w e size h in
     let x = made_of h size in
-    free-keeps AllTell state f (is_free state.writers w) (if has_direction Out (endpoint_state h) then ok_answer made else condition_answer state) (λ free.
-    free-keeps AllTell state f (has_direction Out (endpoint_state h)) (ok_answer made) (λ output.
+    free-keeps AllTell state f (is_free state.writers w) (if has_direction Out h.state then ok_answer made else condition_answer state) (λ free.
+    free-keeps AllTell state f (has_direction Out h.state) (ok_answer made) (λ output.
     one-keeps writers_of IsTelling later state made (extends-same past) w x (set-changes state.writers w x free) (fresh-at past h size (output-of h output)) f)))
 
 -- its endpoint comes back
@@ -175,45 +156,35 @@ close-tell state w f =
     gone-keeps writers_of IsTelling later state (closed_writer state w x) extends w (freed-changes state.writers w) f)
 
 -- what is set is neither calls nor transfer size nor buffer
-set-tells : (past : List Event) (n timeout : ℕ) (x : Writer) → IsTelling past x → IsTelling past (record x { bare = record x.bare { n = n; timeout = timeout } })
+set-tells : (past : List Event) (n timeout : ℕ) (x : Writer) → IsTelling past x → IsTelling past (record x { state = record x.state { n = n; timeout = timeout } })
 set-tells past n timeout x f c is = let was = f c is in record { output = was.output; whole = was.whole; tells = was.tells; complete = was.complete; failed = was.failed }
 
 -- behind a call of a writer
 abbrev called_at : State → Option WriterCalls → Writing HostState → Writer → Writer
 called_at state calls v x =
     record {
-      endpoint = called_endpoint (tickets_of state) (tickets_of (with_host state v.bus)) v.writer.endpoint.pending x.endpoint;
-      bare = bare_writer v.writer;
+      state = v.writer;
+      taken = x.taken ++ taken_by_call (tickets_of state) (tickets_of (with_host state v.bus)) x.state.endpoint.pending v.writer.endpoint.pending;
       calls = calls;
     }
 
 called-tells : (state : State) (x : Writer) (v : Writing HostState) (before : WriterCalls) (accepted : List Call) (failures : List TransferError) (now : Option WriterCalls) → WriterGoesOn (writing_at state x) v → CallTells (writing_at state x) v accepted failures
     → TellsAt state.host.kernel.past x before → TellsAt v.bus.kernel.past (called_at state now v x) (with_calls accepted failures before)
 called-tells state x v before accepted failures now goes t was =
-    let old = state.host.kernel.past in
     let new = v.bus.kernel.past in
-    let back = v.writer.endpoint.pending in
-    let numbers = numbers_from (tickets_of state) (tickets_of (with_host state v.bus) - tickets_of state) in
-    let parts = called-parts x.endpoint.taken x.endpoint.tickets numbers t.taken back (sym t.tickets) in
-    let x' = called_at state now v x in
-    let endpoint : v.writer.endpoint ≡ endpoint_state x'.endpoint = goes.settings.endpoint ∙ ap (λ (l : List ℕ). record (endpoint_state x.endpoint) { pending = l }) (sym parts.1) in
-    let writer : v.writer ≡ state_of_writer x' = ap (λ (e : EndpointState). writer_with e (bare_writer v.writer)) endpoint in
-    let after = with_calls accepted failures before in
-    record {
-      output = was.output;
-      whole = (was.whole.0, was.whole.1 ∙ sym goes.settings.size);
-      tells =
-          subst (λ (s : WriterState). Tells new s (history_of x'.endpoint after)) writer
-          (tells-as new v.writer (record { taken = taken_of x.endpoint ++ t.taken; calls = after.accepted }) (taken_of x'.endpoint) after.accepted parts.0 refl (t.tells (taken_of x.endpoint) before.accepted was.tells));
-      complete =
-          subst (λ (ts : List ℕ). All (IsComplete new) ts) (sym parts.0)
-          (All-append (IsComplete new) (taken_of x.endpoint) t.taken (complete-later old new (taken_of x.endpoint) goes.past was.complete) t.complete);
+    let still = at-later state.host.kernel.past new x before goes.past was in
+    let taken = taken-are (tickets_of state) (tickets_of (with_host state v.bus)) x.state.endpoint.pending v.writer.endpoint.pending t.taken (sym t.tickets) in
+    subst (λ (ts : List ℕ). TellsAt new (record (called_at state now v x) { taken = x.taken ++ ts }) (with_calls accepted failures before)) (sym taken)
+    (record {
+      output = subst (λ (e : EndpointState). e.address < 128) (sym goes.settings.endpoint) was.output;
+      whole = (was.whole.0, ap (λ (e : EndpointState). (was.whole.0 + 1) * e.maximum) goes.settings.endpoint ∙ was.whole.1 ∙ sym goes.settings.size);
+      tells = t.tells x.taken before.accepted was.tells;
+      complete = All-append (IsComplete new) x.taken t.taken still.complete t.complete;
       failed =
-          ap (failures_at new) parts.0
-          ∙ failures-append new (taken_of x.endpoint) t.taken
-          ∙ ap (λ (l : List TransferError). l ++ failures_at new t.taken) (failures-later old new (taken_of x.endpoint) goes.past was.complete ∙ was.failed)
+          failures-append new x.taken t.taken
+          ∙ ap (λ (l : List TransferError). l ++ failures_at new t.taken) still.failed
           ∙ ap (λ (l : List TransferError). before.failures ++ l) t.failed;
-    }
+    })
 
 -- the calls before one
 record Before (accepted : List Call) (failures : List TransferError) (o : Option WriterCalls) (c : WriterCalls) : Type 0 where
@@ -228,7 +199,7 @@ before-of accepted failures (Some before) c is = record { before = before; was =
 -- what a call is to its writer where it is made
 record ToldCall (state : State) (x : Writer) (accepted : List Call) (failures : List TransferError) (v : Writing HostState) : Type 0 where
   goes : WriterGoesOn (writing_at state x) v
-  tells : x.endpoint.address < 128 → CallTells (writing_at state x) v accepted failures
+  tells : x.state.endpoint.address < 128 → CallTells (writing_at state x) v accepted failures
 
 told_by : (state : State) (x : Writer) (call : StreamCall) → ToldCall state x (counts_as call (writing_at state x)) (failures_by call (writing_at state x)) (left_by call (writing_at state x))
 told_by state x call = record { goes = writer_calls-go_on call (writing_at state x); tells = calls-tell call (writing_at state x) }
@@ -258,28 +229,28 @@ module _ (state : State) (f : AllTell state) (w : ℕ) (x : Writer) (at : named 
   write-tell : (src : List ℕ) (line : Result ℕ WriteFault → List ℕ) (timeout : ℕ) → AllTell (write_on state w src x line timeout).state
   write-tell src line timeout =
       let came = write_came host_calls timeout src (writing_at state x) in
-      called_as-tell (write_need (state_of_writer x)) (written_calls src came.answer) line came (told_by state x (Write timeout src))
+      called_as-tell (write_need x.state) (written_calls src came.answer) line came (told_by state x (Write timeout src))
 
   flush-tell : (line : Result Unit WriteFault → List ℕ) (a : Answered Unit WriteFault (Writing HostState)) → ToldCall state x (Flush ∷ []) (failures_of a.answer) a.left → AllTell (flush_as state w x line a).state
-  flush-tell line a t = called_as-tell (flush_need (state_of_writer x)) (Flush ∷ []) line a t
+  flush-tell line a t = called_as-tell (flush_need x.state) (Flush ∷ []) line a t
 
   finish-tell : (line : Result Unit WriteFault → List ℕ) (a : Answered Unit WriteFault (Writing HostState)) → ToldCall state x (Finish ∷ []) (failures_of a.answer) a.left → AllTell (finish_as state w x line a).state
-  finish-tell line a t = called_as-tell (finish_need (state_of_writer x)) (Finish ∷ []) line a t
+  finish-tell line a t = called_as-tell (finish_need x.state) (Finish ∷ []) line a t
 
   called-tell : (call : WriterCall) → AllTell (writer_called call state w x).state
-  called-tell (writers.Write bytes) = write-tell bytes written_line x.bare.timeout
+  called-tell (writers.Write bytes) = write-tell bytes written_line x.state.timeout
   called-tell (writers.PollWrite bytes) = write-tell bytes (poll_line written_line) 0
   called-tell writers.Submit = flush-tell flushed_line (submitted_to (submit_came host_calls (writing_at state x))) (told_by state x Submit)
   called-tell writers.SubmitEnd = finish-tell flushed_line (submitted_to (submit_end_came host_calls (writing_at state x))) (told_by state x SubmitEnd)
-  called-tell writers.Flush = flush-tell flushed_line (flush_came host_calls x.bare.timeout (writing_at state x)) (told_by state x (FlushAll x.bare.timeout))
+  called-tell writers.Flush = flush-tell flushed_line (flush_came host_calls x.state.timeout (writing_at state x)) (told_by state x (FlushAll x.state.timeout))
   called-tell writers.PollFlush = flush-tell (poll_line flushed_line) (flush_came host_calls 0 (writing_at state x)) (told_by state x (FlushAll 0))
-  called-tell writers.FlushEnd = finish-tell flushed_line (flush_end_came host_calls x.bare.timeout (writing_at state x)) (told_by state x (FlushEnd x.bare.timeout))
+  called-tell writers.FlushEnd = finish-tell flushed_line (flush_end_came host_calls x.state.timeout (writing_at state x)) (told_by state x (FlushEnd x.state.timeout))
   called-tell writers.PollFlushEnd =
-      called_as-tell (poll_finish_need (state_of_writer x)) (begun_calls x.bare.begun) (poll_line flushed_line) (poll_flush_end_came host_calls (writing_at state x)) (told_by state x PollFlushEnd)
+      called_as-tell (poll_finish_need x.state) (begun_calls x.state.begun) (poll_line flushed_line) (poll_flush_end_came host_calls (writing_at state x)) (told_by state x PollFlushEnd)
   called-tell (writers.SetNumTransfers n) =
       bar-keeps AllTell state f (bars_transfers n) (ok_answer (record state { writers = change_named (with_transfers n) state.writers w }))
-      (own-tell state.host (with_transfers n) (extends-same state.host.kernel.past) (set-tells state.host.kernel.past n x.bare.timeout x (f w x at)))
-  called-tell (writers.SetWriteTimeout timeout) = own-tell state.host (with_write_timeout timeout) (extends-same state.host.kernel.past) (set-tells state.host.kernel.past x.bare.n timeout x (f w x at))
+      (own-tell state.host (with_transfers n) (extends-same state.host.kernel.past) (set-tells state.host.kernel.past n x.state.timeout x (f w x at)))
+  called-tell (writers.SetWriteTimeout timeout) = own-tell state.host (with_write_timeout timeout) (extends-same state.host.kernel.past) (set-tells state.host.kernel.past x.state.n timeout x (f w x at))
 
 on_writer-tell : (state : State) (w : ℕ) (call : WriterCall) → AllTell state → AllTell (on_writer state w call).state
 unfolding on_writer

@@ -27,9 +27,9 @@ pub fn fates_are_final()
     ensures scripts { FatesOfScripts }
 {}
 
-/// While the session is not crowded, a poll answers for the endpoint's n-th ticket, counted from 0, where n were taken: with the
-/// completion that the journal has of it, and `pending` exactly where the journal has none. So does each poll of a script. A line
-/// with a completion is printed only where an endpoint's ticket is taken: control transfers print none.
+/// While the session is not crowded, a poll answers for the endpoint's oldest pending ticket: with the completion that the journal
+/// has of it, and `pending` exactly where the journal has none. So does each poll of a script. A line with a completion is printed
+/// only where an endpoint's ticket is taken: control transfers print none.
 pub fn polls_answer_for_their_place()
     ensures poll { PollsAnswerForTheirPlace }
     ensures scripts { PollsOfScriptsAnswer }

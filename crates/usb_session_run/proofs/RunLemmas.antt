@@ -48,7 +48,7 @@ running-on new s next item items line run answered appends =
     record {
       now = (answer run.now item).state;
       stands = a.state;
-      accounted = accounted-answer run.now item run.stands.few run.accounted;
+      accounted = accounted-answer run.now item run.accounted;
       wrote = Wrote_more new line (output_from (answer run.now item).state items) run.wrote appends (line-left run.now item items line a.line);
       leads = run.leads;
     }

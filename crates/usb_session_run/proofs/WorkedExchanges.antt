@@ -1,5 +1,5 @@
 -- Messages that are echoed, over four scripts, computed by the definitions alone.
-use Rattle.std.proofs.Common.{◌≡◌, ℕ, ◌-◌, ◌^◌, arith, List, [], ◌∷◌, ◌++◌, Some, None, true, false, refl, inl}
+use Rattle.std.proofs.Common.{◌≡◌, ℕ, ◌-◌, ◌^◌, arith, List, [], ◌∷◌, ◌++◌, Some, None, false, refl, inl}
 use Rattle.usb_desc.specs.declared.types.TransferType.TheVariants.{Interrupt}
 use Rattle.usb_kernel.specs.declared.event.Event.{Event}
 use Rattle.usb_kernel.specs.declared.event.Event.TheVariants.{Submit, Reap}
@@ -51,21 +51,36 @@ opened lines =
 abbrev pub behind_all : List Item → State
 behind_all lines = behind (start lines) lines
 
--- what is open then: the writer with so many tickets taken, and the reader, which has read all that it took
-abbrev pub writer_with : List ℕ → ℕ → WriterCalls → Writer
-writer_with tickets taken c =
+-- what is open then: the writer with these tickets taken and pending, and the reader, which has read all that it took
+abbrev pub writer_with : List ℕ → List ℕ → WriterCalls → Writer
+writer_with taken pending c =
     record {
-      endpoint = record { device = 0; address = 2; kind = Interrupt; maximum = 4; key = 1; tickets = tickets; taken = taken; was_streamed = true };
-      bare = record { n = 1; size = 8; timeout = 2 ^ 64 - 1; buffer = None; begun = false };
+      state = record {
+        endpoint = record { device = 0; address = 2; kind = Interrupt; maximum = 4; key = 1; pending = pending };
+        n = 1;
+        size = 8;
+        timeout = 2 ^ 64 - 1;
+        buffer = None;
+        begun = false;
+      };
+      taken = taken;
       calls = Some c;
     }
 
 abbrev pub reader_with : List ℕ → List Mark → Reader
 reader_with given consumed =
     record {
-      endpoint = record { device = 0; address = 129; kind = Interrupt; maximum = 4; key = 0; tickets = 1 ∷ []; taken = 1; was_streamed = true };
-      bare = record { n = 1; size = 12; timeout = 2 ^ 64 - 1; unread = []; ended = false; error = None };
+      state = record {
+        endpoint = record { device = 0; address = 129; kind = Interrupt; maximum = 4; key = 0; pending = [] };
+        n = 1;
+        size = 12;
+        timeout = 2 ^ 64 - 1;
+        unread = [];
+        ended = false;
+        error = None;
+      };
       before = [];
+      taken = 1 ∷ [];
       given = given;
       consumed = Some consumed;
     }
@@ -87,7 +102,7 @@ abbrev pub five_past : List Event
 five_past =
     Reap 1 ∷ Reap 0 ∷ event.Echo 0 2 129 ∷ event.Echo 0 2 129 ∷ Submit 1 0 129 4 (Wanted 12) 12 None ∷ Submit 0 0 2 4 (Sent (1 ∷ 2 ∷ 3 ∷ 4 ∷ 5 ∷ [])) 8 None ∷ []
 
-pub five_bytes : HaveExchanged (behind_all five) (behind_all five) (writer_with (0 ∷ []) 0 five_calls) (reader_with (1 ∷ 2 ∷ 3 ∷ 4 ∷ 5 ∷ []) five_consumed) five_calls five_consumed five_past
+pub five_bytes : HaveExchanged (behind_all five) (behind_all five) (writer_with [] (0 ∷ []) five_calls) (reader_with (1 ∷ 2 ∷ 3 ∷ 4 ∷ 5 ∷ []) five_consumed) five_calls five_consumed five_past
     ((1 ∷ 2 ∷ 3 ∷ 4 ∷ 5 ∷ []) ∷ []) ((1 ∷ 2 ∷ 3 ∷ 4 ∷ 5 ∷ []) ∷ [])
 unfolding output_on_literals
 five_bytes =
@@ -121,7 +136,7 @@ abbrev pub none_past : List Event
 none_past =
     Submit 2 0 2 4 (Sent (7 ∷ [])) 8 None ∷ Reap 1 ∷ Reap 0 ∷ event.Echo 0 2 129 ∷ Submit 1 0 129 4 (Wanted 12) 12 None ∷ Submit 0 0 2 4 (Sent []) 0 None ∷ []
 
-pub no_bytes : HaveExchanged (behind_all none) (behind_all none) (writer_with (0 ∷ 2 ∷ []) 1 none_calls) (reader_with [] (End ∷ [])) none_calls (End ∷ []) none_past ([] ∷ []) ([] ∷ (7 ∷ []) ∷ [])
+pub no_bytes : HaveExchanged (behind_all none) (behind_all none) (writer_with (0 ∷ []) (2 ∷ []) none_calls) (reader_with [] (End ∷ [])) none_calls (End ∷ []) none_past ([] ∷ []) ([] ∷ (7 ∷ []) ∷ [])
 unfolding output_on_literals
 no_bytes =
     record {
@@ -158,7 +173,7 @@ behind_first before middle = behind (start (before ++ middle)) before
 -- no writer of number 0 is open then, and yet its message is read
 pub record AreReadWithout (gone : Item) : Type 0 where
   pub none : named (behind_all (five_sent ++ five_read gone)).writers 0 ≡ None
-  pub exchanged : HaveExchanged (behind_first five_sent (five_read gone)) (behind_all (five_sent ++ five_read gone)) (writer_with (0 ∷ []) 0 five_calls)
+  pub exchanged : HaveExchanged (behind_first five_sent (five_read gone)) (behind_all (five_sent ++ five_read gone)) (writer_with [] (0 ∷ []) five_calls)
       (reader_with (1 ∷ 2 ∷ 3 ∷ 4 ∷ 5 ∷ []) five_consumed) five_calls five_consumed five_past ((1 ∷ 2 ∷ 3 ∷ 4 ∷ 5 ∷ []) ∷ []) ((1 ∷ 2 ∷ 3 ∷ 4 ∷ 5 ∷ []) ∷ [])
 
 -- it was closed

@@ -1,6 +1,6 @@
 use Rattle.std.proofs.Common.{◌≡◌, ℕ, Some, Contains}
 use Rattle.slab.specs.Slab.{get}
-use Rattle.usb_device_tables.specs.declared.registry.Entry.{Entry}
+use Rattle.usb_device_tables.specs.declared.entry.Entry.{Entry}
 use Rattle.usb_device_tables.proofs.registry.find_place.Given as goal
 
 -- each entry with the serial number is among those that are left, and each that is left is one of the slab's

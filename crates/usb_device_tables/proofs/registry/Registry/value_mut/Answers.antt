@@ -1,6 +1,6 @@
 use Rattle.std.proofs.Common.{Some, set, refl, sym, ap, ◌∙◌}
 use Rattle.std.specs.Option.{option_map}
-use Rattle.usb_device_tables.specs.declared.registry.Entry.{Entry}
+use Rattle.usb_device_tables.specs.declared.entry.Entry.{Entry}
 use Rattle.usb_device_tables.specs.History.{RegistryState, value_at}
 use Rattle.usb_device_tables.proofs.EntryLemmas.{state, value-found, value-absent, sound-lent, history-lent, some-none}
 use Rattle.usb_device_tables.proofs.registry.Registry.value_mut.Goals as goal

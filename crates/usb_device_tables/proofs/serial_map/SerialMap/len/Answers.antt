@@ -1,8 +1,10 @@
-use Rattle.std.proofs.Common.{sym, ap, ◌∙◌}
+use Rattle.std.proofs.Common.{length, sym, ap, ◌∙◌}
 use Rattle.usb_device_tables.specs.History.{live_count}
-use Rattle.usb_device_tables.proofs.MapLemmas.{count-entries}
+use Rattle.usb_device_tables.proofs.EntryLemmas.{count-history}
+use Rattle.usb_device_tables.proofs.PlaceLemmas.{sound-placed}
 use Rattle.usb_device_tables.proofs.serial_map.SerialMap.len.Goals as goal
 
 pub returns : goal.returns
 returns g c =
-    record { live = c.len.ensures.len ∙ sym (count-entries c.self.inside.entries.entries c.self.inside.next c.len.ensures.ordered c.self.invariant) ∙ ap live_count c.self.view_is }
+    let sound = sound-placed c.self.inside.entries.slots c.self.inside.places.items c.self.invariant in
+    record { live = c.len.ensures ∙ sym (count-history c.self.inside.entries.slots (length c.self.inside.places.items) sound.apart sound.below) ∙ ap live_count c.self.view_is }
