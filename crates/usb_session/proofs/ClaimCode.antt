@@ -1,5 +1,5 @@
 -- Interfaces are claimed.
-use Rattle.std.proofs.Common.{◌≡◌, ℕ, Bool, List, length, Option, Some, None, Result, Ok, Err, true, false, refl, ap, sym, ◌∙◌, subst}
+use Rattle.std.proofs.Common.{◌≡◌, ℕ, Bool, List, length, Option, Some, None, Result, Ok, Err, true, false, refl, ap, ◌∙◌}
 use Rattle.usb_device_tables.specs.History.{value_at}
 use Rattle.usb_desc.specs.declared.error.Fail.{Fail}
 use Rattle.usb_error.specs.ErrorState.{ErrorState}
@@ -17,7 +17,6 @@ use Rattle.usb_session.specs.Claims.{claim_answer, claimed_as}
 use Rattle.usb_session_calls.specs.SessionState.{SessionState}
 use Rattle.usb_session_calls.specs.Relation.{Represents, session_of}
 use Rattle.usb_session_calls.proofs.DeviceCalls.{device-none, device-some}
-use Rattle.usb_session_calls.proofs.Called.{represents-host}
 use Rattle.usb_session_calls.proofs.Answering.{Gives, barred-gives}
 
 -- the state in which it is claimed

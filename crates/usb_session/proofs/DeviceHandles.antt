@@ -16,7 +16,7 @@ use Rattle.usb_session_calls.specs.Clones.{clone_device_answer}
 use Rattle.usb_session_calls.specs.SessionState.{SessionState, IsSound, is_device_of}
 use Rattle.usb_session_calls.specs.Relation.{Represents}
 use Rattle.usb_session_calls.proofs.NameLemmas.{length-set_name, length-freed, names-set}
-use Rattle.usb_session_calls.proofs.Answering.{Gives, barred-gives, host_is}
+use Rattle.usb_session_calls.proofs.Answering.{Gives, barred-gives}
 use Rattle.usb_session_calls.proofs.Called.{names-freed}
 use Rattle.usb_session_calls.proofs.CountedDevices.{count-opened, count-closed, devices-changed, stands-changed}
 use Rattle.usb_session_calls.proofs.SoundDevices.{sound-device}

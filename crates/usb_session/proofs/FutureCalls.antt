@@ -25,7 +25,7 @@ use Rattle.usb_session_calls.specs.declared.call.FutureCall.TheVariants.{Poll}
 use Rattle.usb_session_calls.specs.SessionState.{SessionState, IsSound}
 use Rattle.usb_session_calls.specs.Relation.{Represents}
 use Rattle.usb_session_calls.specs.TargetCalls.{number_of_target, started_host, started_future}
-use Rattle.usb_session_calls.proofs.Answering.{Gives, barred-gives, host_is}
+use Rattle.usb_session_calls.proofs.Answering.{Gives, barred-gives}
 use Rattle.usb_session_calls.proofs.Called.{KeepsSession}
 use Rattle.usb_session_calls.proofs.ControlCode.{number-is, sound-controlled}
 use Rattle.usb_session_calls.proofs.ControlHosts.{keeps-same, leaves-taken, leaves-waited, spare-waited, stands-lent_host}

@@ -1,5 +1,5 @@
 -- Handles of interfaces and of devices are closed, by the number of their name.
-use Rattle.std.proofs.Common.{◌≡◌, ℕ, List, Option, Some, None, refl, ap, sym, ◌∙◌, subst}
+use Rattle.std.proofs.Common.{◌≡◌, ℕ, List, Option, Some, None, refl, sym, ◌∙◌, subst}
 use Rattle.usb_device_host.specs.HostState.{HostState}
 use Rattle.usb_device_host.specs.Handles.{device_closed, handle_closed}
 use Rattle.usb_device.specs.HandleStates.{InterfaceState}

@@ -15,7 +15,7 @@ use Rattle.usb_device_host.specs.HostTurns.{host_rest}
 use Rattle.usb_device_host.proofs.WaitFrames.{went-rest, rest-steps, rest-spare}
 use Rattle.usb_io.specs.Readers.{ReaderState}
 use Rattle.usb_io.specs.Writers.{WriterState}
-use Rattle.usb_session_calls.specs.State.{State, with_host}
+use Rattle.usb_session_calls.specs.State.{State}
 use Rattle.usb_session_calls.specs.Answer.{Answer}
 use Rattle.usb_session_calls.specs.Steps.{with_steps, then_applied, along_steps, stepped_all}
 use Rattle.usb_session_calls.specs.EndpointNames.{EndpointName}
@@ -23,9 +23,8 @@ use Rattle.usb_session_calls.specs.SessionState.{SessionState, IsSound, open_und
 use Rattle.usb_session_calls.specs.Relation.{Represents}
 use Rattle.usb_session_calls.specs.Answered.{Answered, Answers}
 use Rattle.usb_session_calls.specs.OpenCalls.{CallKeeps}
-use Rattle.usb_session_calls.proofs.Answering.{host_is}
 use Rattle.usb_device_host.proofs.ClaimFrames.{goes-trans}
-use Rattle.usb_session_calls.proofs.Called.{KeepsSession, with_open, represents-host, sound-put}
+use Rattle.usb_session_calls.proofs.Called.{KeepsSession, with_open, sound-put}
 use Rattle.usb_session_calls.proofs.ControlCode.{sound-controlled}
 use Rattle.usb_session_calls.proofs.ControlHosts.{keeps-same}
 use Rattle.usb_session_calls.proofs.NamedKeys.{OpensNone, none-goes, none-then}

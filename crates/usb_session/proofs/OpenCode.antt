@@ -26,7 +26,7 @@ use Rattle.usb_session_calls.specs.Relation.{Represents, session_of}
 use Rattle.usb_session_calls.proofs.NameLemmas.{length-set_name, names-set}
 use Rattle.usb_session_calls.proofs.CountedDevices.{devices-opened}
 use Rattle.usb_session_calls.proofs.SoundDevices.{sound-device}
-use Rattle.usb_session_calls.proofs.Called.{KeepsSession, sound-host, represents-host}
+use Rattle.usb_session_calls.proofs.Called.{KeepsSession, sound-host}
 use Rattle.usb_session_calls.proofs.NamedKeys.{none-bus}
 use Rattle.usb_session_calls.proofs.Answering.{Gives, barred-gives}
 use Rattle.usb_session_calls.proofs.FutureLemmas.{past-same}

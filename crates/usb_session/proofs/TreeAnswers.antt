@@ -1,5 +1,5 @@
 -- Answers of lines on the tree of attributes and on packets of udev.
-use Rattle.std.proofs.Common.{◌≡◌, ℕ, true, false, Bool, List, drop, Result, Ok, Err, refl, ap, sym, ◌∙◌, subst}
+use Rattle.std.proofs.Common.{◌≡◌, ℕ, true, false, Bool, List, drop, Result, Ok, Err, refl, ap, sym, subst}
 use Rattle.std.specs.Prelude.{String, string_bytes}
 use Rattle.std.specs.declared.alloc.Global.{Global}
 use Rattle.futures.specs.declared.task.Poll.{Poll}

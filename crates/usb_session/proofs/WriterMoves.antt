@@ -1,10 +1,9 @@
 -- An endpoint becomes a writer's, or comes back.
-use Rattle.std.proofs.Common.{◌≡◌, ◌≢◌, ℕ, ◌≤◌, List, length, Option, Some, None, true, false, refl, ap, sym, ◌∙◌, subst}
+use Rattle.std.proofs.Common.{◌≡◌, ◌≢◌, ℕ, List, Option, Some, None, true, false, refl, ap, sym, ◌∙◌}
 use Rattle.std.specs.Option.{option_map}
 use Rattle.usb_desc.specs.declared.types.Direction.TheVariants.{Out}
 use Rattle.usb_desc.specs.Fields.{direction_of_address}
 use Rattle.usb_device_endpoint.specs.EndpointState.{EndpointState}
-use Rattle.usb_device_host.specs.HostState.{HostState}
 use Rattle.usb_io.specs.Writers.{WriterState, fresh_writer}
 use Rattle.usb_session_text.specs.Calls.{condition_line, ok_line}
 use Rattle.usb_session_calls.specs.Names.{named, is_free, freed, set_name}
@@ -15,10 +14,10 @@ use Rattle.usb_session_calls.specs.Submits.{has_direction}
 use Rattle.usb_session_calls.specs.Answer.{ok_answer}
 use Rattle.usb_session_calls.specs.SessionState.{SessionState, IsSound, open_under}
 use Rattle.usb_session_calls.specs.Relation.{Represents}
-use Rattle.usb_session_calls.proofs.Answering.{Gives, barred-gives, host_is}
+use Rattle.usb_session_calls.proofs.Answering.{Gives, barred-gives}
 use Rattle.usb_session_calls.proofs.EndpointNameLemmas.{set-changes, freed-changes}
 use Rattle.usb_session_calls.proofs.NameLemmas.{free-none, length-freed, length-set_name, map-freed, map-set}
-use Rattle.usb_session_calls.proofs.Called.{own-open, writer-open, endpoints_kept, readers_kept, writers_kept}
+use Rattle.usb_session_calls.proofs.Called.{own-open, writer-open, endpoints_kept, writers_kept}
 use Rattle.usb_session.proofs.KeptNames.{kept-at, kept-none, kept-free}
 use Rattle.usb_session.proofs.Replaced.{writer_endpoint}
 use Rattle.usb_session.proofs.Moves.{Moves, sound-moved, is-direction, not-direction, barred-used, barred-direction}
