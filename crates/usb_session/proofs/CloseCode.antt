@@ -1,5 +1,5 @@
 -- An endpoint is taken out of its name and closed, or a reader or a writer with its endpoint.
-use Rattle.std.proofs.Common.{◌≡◌, ℕ, arith, List, [], ◌∷◌, ◌+◌, ◌++◌, length, length-append, Option, Some, None, Bool, true, false, refl, ap, sym, ◌∙◌, subst}
+use Rattle.std.proofs.Common.{◌≡◌, ℕ, arith, List, [], ◌∷◌, ◌+◌, ◌++◌, length, length-append, Option, Some, None, Bool, true, false, refl, ap, sym, ◌∙◌}
 use Rattle.std.specs.Prelude.{◌==◌}
 use Rattle.std.specs.Option.{option_map}
 use Rattle.std.proofs.lemmas.Bool.{cond_both, eq-eqb}
@@ -95,8 +95,8 @@ closed-spare h now e idle bus =
 -- the session in which the endpoint of a name was closed
 sound-closed_under : (s : SessionState) (now : HostState) (es : List (Option EndpointState)) (rs : List (Option ReaderState)) (ws : List (Option WriterState)) (e : EndpointName) (x : EndpointState) → IsSound s → open_under s e ≡ Some x → Replaces s es rs ws e None → now ≡ after_close host_calls s.host x → KeepsOthers (bus_of s.host) (bus_of now) x.key → IsSound (with_open s now es rs ws)
 sound-closed_under s now es rs ws e x sound was gone bus others =
-    sound-gone s now es rs ws e x sound was gone.counts (subst (KeepsSession s.host) (sym bus) (keeps-closed s.host x sound.idle)) others
-    (subst (λ (g : HostState). OpensNone s.host.endpoints g.endpoints) (sym bus) (none-closed s.host x))
+    sound-gone s now es rs ws e x sound was gone.counts (rw bus (keeps-closed s.host x sound.idle)) others
+    (rw bus (none-closed s.host x))
     gone.changed (ap (λ (g : HostState). key_at g.endpoints x.key) bus ∙ key-closed s.host x)
 
 -- the host is that of the state

@@ -43,8 +43,7 @@ cloned-here s after n d key sound at free put =
     (held-device_cloned s.host key stands sound.devices_held)
 
 pub sound-device_cloned : (s : SessionState) (now : HostState) (after : List (Option ℕ)) (n d key : ℕ) → IsSound s → now ≡ device_cloned s.host key → named s.devices d ≡ Some key → is_free s.devices n ≡ true → after ≡ set_name s.devices n key → IsSound (record s { host = now; devices = after })
-sound-device_cloned s now after n d key sound is at free put =
-    subst (λ (h : HostState). IsSound (record s { host = h; devices = after })) (sym is) (cloned-here s after n d key sound at free put)
+sound-device_cloned s now after n d key sound is at free put = rw is (cloned-here s after n d key sound at free put)
 
 -- a handle is closed
 closed-here : (s : SessionState) (after : List (Option ℕ)) (d key : ℕ) → IsSound s → named s.devices d ≡ Some key → after ≡ freed s.devices d → IsSound (record s { host = device_closed s.host key; devices = after })
@@ -65,8 +64,7 @@ closed-here s after d key sound at rest =
     (held-device_closed s.host key stands sound.devices_held)
 
 pub sound-device_closed : (s : SessionState) (now : HostState) (after : List (Option ℕ)) (d key : ℕ) → IsSound s → named s.devices d ≡ Some key → after ≡ freed s.devices d → now ≡ device_closed s.host key → IsSound (record s { host = now; devices = after })
-sound-device_closed s now after d key sound at rest is =
-    subst (λ (h : HostState). IsSound (record s { host = h; devices = after })) (sym is) (closed-here s after d key sound at rest)
+sound-device_closed s now after d key sound at rest is = rw is (closed-here s after d key sound at rest)
 
 pub clone_device-none : (s : SessionState) (state : State) (n d : ℕ) → named s.devices d ≡ None → Represents s state → Gives s condition_line (clone_device_answer state n d)
 unfolding clone_device_answer

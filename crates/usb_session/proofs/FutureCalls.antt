@@ -103,7 +103,7 @@ none-host : (h now : HostState) (request : TransferData) (timeout : ℕ) (o : Op
 none-host h now request timeout o none is = is ∙ ap (started_host h request timeout) (none-begun o h request timeout none)
 
 pub none-sound : (s : SessionState) (now : HostState) (request : TransferData) (timeout : ℕ) (o : Option ℕ) → IsSound s → None ≡ started_future s.host request timeout o → now ≡ started_host s.host request timeout o → IsSound (record s { host = now })
-none-sound s now request timeout o sound none is = subst (λ (h : HostState). IsSound (record s { host = h })) (sym (none-host s.host now request timeout o none is)) sound
+none-sound s now request timeout o sound none is = rw (none-host s.host now request timeout o none is) sound
 
 barred-by : (s : SessionState) (state : State) (n : ℕ) (request : TransferData) (timeout : ℕ) (o : Option ℕ) → Represents s state → ((device : ℕ) → o ≡ Some device → Gives s condition_line (if is_free state.futures n then start_on state n request timeout device else condition_answer state)) → Gives s condition_line (if_open o (λ device. if is_free state.futures n then start_on state n request timeout device else condition_answer state) (condition_answer state))
 barred-by s state n request timeout None r gives = barred-gives s state r
@@ -113,8 +113,7 @@ pub start-none : (s : SessionState) (state : State) (now : HostState) (n : ℕ) 
 unfolding start_answer
 start-none s state now n request timeout target o r number none is =
     let there : device_of_target state target ≡ None = number-is s state target r ∙ sym number ∙ none-begun o s.host request timeout none in
-    let same : s.host ≡ now = sym (none-host s.host now request timeout o none is) in
-    rw there (subst (λ (h : HostState). Gives (record s { host = h }) condition_line (condition_answer state)) same (barred-gives s state r))
+    rw (there, none-host s.host now request timeout o none is) (barred-gives s state r)
 
 pub start-used : (s : SessionState) (state : State) (n : ℕ) (request : TransferData) (timeout : ℕ) (target : ControlTarget) → Represents s state → is_free s.futures n ≡ false → Gives s condition_line (start_answer state n target request timeout)
 unfolding start_answer
@@ -131,13 +130,11 @@ start-bars s state n request timeout target r bars =
     both false gives = gives
 
 pub future-same_sound : (s : SessionState) (after : List (Option FutureState)) → IsSound s → after ≡ s.futures → IsSound (record s { futures = after })
-future-same_sound s after sound same = subst (λ (l : List (Option FutureState)). IsSound (record s { futures = l })) (sym same) sound
+future-same_sound s after sound same = rw same sound
 
 -- nothing is
 pub none-gives : (s : SessionState) (state : State) (after : List (Option FutureState)) (n : ℕ) (call : FutureState → Answer) → Represents s state → named s.futures n ≡ None → after ≡ freed s.futures n → Gives (record s { futures = after }) condition_line (if_open (named state.futures n) call (condition_answer state))
-none-gives s state after n call r none rest =
-    let same : s.futures ≡ after = sym (rest ∙ freed-none s.futures n none) in
-    rw (rw r at none) (subst (λ (l : List (Option FutureState)). Gives (record s { futures = l }) condition_line (condition_answer state)) same (barred-gives s state r))
+none-gives s state after n call r none rest = rw (rw r at none, rest, freed-none s.futures n none) (barred-gives s state r)
 
 -- its answer was taken
 taken-is : (h now : HostState) (f after : FutureState) (last : HostState) → now ≡ future_taken h f → after ≡ spent_future f → last ≡ future_closed now after → last ≡ future_taken h f
@@ -145,7 +142,7 @@ taken-is h now f after last taken spent closed = closed ∙ ap (future_closed no
 
 pub polled-sound : (s : SessionState) (now last : HostState) (after : List (Option FutureState)) (n : ℕ) (f y : FutureState) → IsSound s → named s.futures n ≡ Some f → after ≡ freed s.futures n → now ≡ future_taken s.host f → y ≡ spent_future f → last ≡ future_closed now y → IsSound (record s { host = last; futures = after })
 polled-sound s now last after n f y sound was rest taken spent closed =
-    subst (λ (h : HostState). IsSound (record s { host = h; futures = after })) (sym (taken-is s.host now f y last taken spent closed))
+    rw (taken-is s.host now f y last taken spent closed)
     (sound-future_freed s (future_taken s.host f) after n f sound was rest (leaves-taken s.host f sound.idle (sound.futures_wait n f was) (sound.futures_stand n f was)))
 
 pub polled-spare : (h now last : HostState) (f y : FutureState) → now ≡ future_taken h f → y ≡ spent_future f → last ≡ future_closed now y → last.kernel.spare ≡ h.kernel.spare
@@ -170,8 +167,7 @@ pub pending-same : (s : SessionState) (mid after : List (Option FutureState)) (n
 pending-same s mid after n f y was rest same put = put ∙ ap (λ l. set_name l n y) rest ∙ ap (set_name (freed s.futures n) n) same ∙ put-back s.futures n f was
 
 pub pending-sound : (s : SessionState) (now : HostState) (after : List (Option FutureState)) → IsSound s → now ≡ s.host → after ≡ s.futures → IsSound (record s { host = now; futures = after })
-pending-sound s now after sound host same =
-    subst (λ (h : HostState). IsSound (record s { host = h; futures = after })) (sym host) (future-same_sound s after sound same)
+pending-sound s now after sound host same = rw (host, same) sound
 
 pending-by : (s : SessionState) (state : State) (n : ℕ) (f : FutureState) (o : Option (Result (List ℕ) TransferError)) → Represents s state → o ≡ None → Gives s pending_line (future_polled state n f o)
 pending-by s state n f None r none = record { state = r; same = refl }
@@ -185,15 +181,14 @@ pending-gives s state now after n f r was host same none =
 
 -- one that is waited for, with the steps of the line
 pub wait-stands : (s : SessionState) (steps : List KernelStep) (at : HostState) (n : ℕ) (f : FutureState) → IsSound s → at ≡ record s.host { steps = steps } → named s.futures n ≡ Some f → StandsFuture at f
-wait-stands s steps at n f sound is was =
-    subst (λ (h : HostState). StandsFuture h f) (sym is) (stands-lent_host s.host steps f (sound.futures_wait n f was) (sound.futures_stand n f was))
+wait-stands s steps at n f sound is was = rw is (stands-lent_host s.host steps f (sound.futures_wait n f was) (sound.futures_stand n f was))
 
 waited-is : (h at now last : HostState) (steps : List KernelStep) (f : FutureState) → at ≡ record h { steps = steps } → now ≡ future_taken (future_awaited at f) f → last ≡ host_rest now → last ≡ host_rest (future_taken (future_awaited (record h { steps = steps }) f) f)
 waited-is h at now last steps f is taken rest = rest ∙ ap host_rest (taken ∙ ap (λ (g : HostState). future_taken (future_awaited g f) f) is)
 
 pub waited-sound : (s : SessionState) (steps : List KernelStep) (at now last : HostState) (after : List (Option FutureState)) (n : ℕ) (f : FutureState) → IsSound s → at ≡ record s.host { steps = steps } → named s.futures n ≡ Some f → after ≡ freed s.futures n → now ≡ future_taken (future_awaited at f) f → last ≡ host_rest now → IsSound (record s { host = last; futures = after })
 waited-sound s steps at now last after n f sound is was free taken rest =
-    subst (λ (h : HostState). IsSound (record s { host = h; futures = after })) (sym (waited-is s.host at now last steps f is taken rest))
+    rw (waited-is s.host at now last steps f is taken rest)
     (sound-future_freed s (host_rest (future_taken (future_awaited (record s.host { steps = steps }) f) f)) after n f sound was free
     (leaves-waited s.host steps f (sound.futures_wait n f was) (sound.futures_stand n f was)))
 
@@ -201,7 +196,7 @@ pub waited-spare : (S s : SessionState) (steps : List KernelStep) (at now last :
 waited-spare S s steps at now last n f sound view is was taken rest room =
     let spare : s.host.kernel.spare ≡ S.host.kernel.spare = ap (λ (v : SessionState). v.host.kernel.spare) view in
     ap (λ (h : HostState). h.kernel.spare + length steps) (waited-is s.host at now last steps f is taken rest)
-    ∙ spare-waited s.host steps f (sound.futures_wait n f was) (sound.futures_stand n f was) (subst (λ k. length steps ≤ k) (sym spare) room) ∙ spare
+    ∙ spare-waited s.host steps f (sound.futures_wait n f was) (sound.futures_stand n f was) (rw spare room) ∙ spare
 
 pub waited-gives : (s : SessionState) (state : State) (now : HostState) (after : List (Option FutureState)) (n : ℕ) (f : FutureState) (answer : Result (List ℕ) TransferError) → Represents s state → named s.futures n ≡ Some f → after ≡ freed s.futures n → now ≡ future_taken (future_awaited s.host f) f → future_answer (future_awaited s.host f) f ≡ Some answer
     → Gives (record s { host = now; futures = after }) (received_line answer) (if_open (named state.futures n) (future_waited state n) (condition_answer state))

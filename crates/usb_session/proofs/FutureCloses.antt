@@ -1,5 +1,5 @@
 -- Futures are closed.
-use Rattle.std.proofs.Common.{◌≡◌, ℕ, List, Option, Some, None, refl, ap, sym, ◌∙◌, subst}
+use Rattle.std.proofs.Common.{◌≡◌, ℕ, List, Option, Some, None, refl, ap, ◌∙◌}
 use Rattle.usb_device_host.specs.HostState.{HostState}
 use Rattle.usb_device.specs.Futures.{FutureState, future_closed}
 use Rattle.usb_device.proofs.FutureFrames.{stays-closed}
@@ -12,12 +12,11 @@ use Rattle.usb_session_calls.proofs.FutureSessions.{leaves-closed, sound-future_
 use Rattle.usb_session_calls.proofs.NameLemmas.{freed-none}
 
 pub future-sound_same : (s : SessionState) (after : List (Option FutureState)) (n : ℕ) → IsSound s → named s.futures n ≡ None → after ≡ freed s.futures n → IsSound (record s { futures = after })
-future-sound_same s after n sound none rest =
-    subst (λ (l : List (Option FutureState)). IsSound (record s { futures = l })) (sym (rest ∙ freed-none s.futures n none)) sound
+future-sound_same s after n sound none rest = rw (rest, freed-none s.futures n none) sound
 
 pub future-closed_sound : (s : SessionState) (now : HostState) (after : List (Option FutureState)) (n : ℕ) (f : FutureState) → IsSound s → named s.futures n ≡ Some f → after ≡ freed s.futures n → now ≡ future_closed s.host f → IsSound (record s { host = now; futures = after })
 future-closed_sound s now after n f sound was rest is =
-    subst (λ (h : HostState). IsSound (record s { host = h; futures = after })) (sym is)
+    rw is
     (sound-future_freed s (future_closed s.host f) after n f sound was rest (leaves-closed s.host f sound.idle (sound.futures_wait n f was) (sound.futures_stand n f was)))
 
 pub future-closed_spare : (h now : HostState) (f : FutureState) → now ≡ future_closed h f → now.kernel.spare ≡ h.kernel.spare

@@ -1,5 +1,5 @@
 -- Handles of interfaces and of devices are closed, by the number of their name.
-use Rattle.std.proofs.Common.{◌≡◌, ℕ, List, Option, Some, None, refl, sym, ◌∙◌, subst}
+use Rattle.std.proofs.Common.{◌≡◌, ℕ, List, Option, Some, None, refl, ◌∙◌}
 use Rattle.usb_device_host.specs.HostState.{HostState}
 use Rattle.usb_device_host.specs.Handles.{device_closed, handle_closed}
 use Rattle.usb_device.specs.HandleStates.{InterfaceState}
@@ -22,8 +22,7 @@ interface-nothing S s after i view none rest state r =
     rw (rw (view ∙ r) at none, rest, freed-none s.interfaces i none) (view ∙ r)
 
 pub interface-sound_same : (s : SessionState) (after : List (Option InterfaceState)) (i : ℕ) → IsSound s → named s.interfaces i ≡ None → after ≡ freed s.interfaces i → IsSound (record s { interfaces = after })
-interface-sound_same s after i sound none rest =
-    subst (λ (l : List (Option InterfaceState)). IsSound (record s { interfaces = l })) (sym (rest ∙ freed-none s.interfaces i none)) sound
+interface-sound_same s after i sound none rest = rw (rest, freed-none s.interfaces i none) sound
 
 -- and devices
 pub close_name-code : (S s : SessionState) (now : HostState) (after : List (Option ℕ)) (d key : ℕ) → s ≡ S → named s.devices d ≡ Some key → after ≡ freed s.devices d → now ≡ device_closed s.host key → (state : State) → Represents S state → Represents (record s { host = now; devices = after }) (name_closed state d)
@@ -37,5 +36,4 @@ device-nothing S s after d view none rest state r =
     rw (rw (view ∙ r) at none, rest, freed-none s.devices d none) (view ∙ r)
 
 pub device-sound_same : (s : SessionState) (after : List (Option ℕ)) (d : ℕ) → IsSound s → named s.devices d ≡ None → after ≡ freed s.devices d → IsSound (record s { devices = after })
-device-sound_same s after d sound none rest =
-    subst (λ (l : List (Option ℕ)). IsSound (record s { devices = l })) (sym (rest ∙ freed-none s.devices d none)) sound
+device-sound_same s after d sound none rest = rw (rest, freed-none s.devices d none) sound

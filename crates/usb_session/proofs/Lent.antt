@@ -1,5 +1,5 @@
 -- Lines with steps of their own: the steps are lent, a call is made, and the rest of them is applied.
-use Rattle.std.proofs.Common.{◌≡◌, ℕ, ◌≤◌, ◌+◌, List, length, Option, Some, Result, Ok, Err, Bool, String, string_bytes, refl, ap, sym, ◌∙◌, subst}
+use Rattle.std.proofs.Common.{◌≡◌, ℕ, ◌≤◌, ◌+◌, List, length, Option, Some, Result, Ok, Err, Bool, String, string_bytes, refl, ap, ◌∙◌}
 use Rattle.std.specs.declared.alloc.Global.{Global}
 use Rattle.usb_device_ledger.proofs.DeviceLemmas.{counts-same}
 use Rattle.usb_kernel_devices.specs.declared.step.KernelStep.{KernelStep}
@@ -62,8 +62,8 @@ none-lent host now steps line =
 -- the endpoint of a name was called between
 pub sound-lent : (s : SessionState) (steps : List KernelStep) (at now last : HostState) (es : List (Option EndpointState)) (rs : List (Option ReaderState)) (ws : List (Option WriterState)) (e : EndpointName) (x y : EndpointState) → IsSound s → at ≡ record s.host { steps = steps } → open_under s e ≡ Some x → Replaces s es rs ws e (Some y) → CallKeeps at now x y → last ≡ host_rest now → IsSound (with_open s last es rs ws)
 sound-lent s steps at now last es rs ws e x y sound is was replaces keeps rest =
-    let k = subst (λ (h : HostState). CallKeeps h now x y) is keeps in
-    subst (λ (h : HostState). IsSound (with_open s h es rs ws)) (sym rest)
+    let k = rw is at keeps in
+    rw rest
     (sound-put s (host_rest now) es rs ws e x sound was replaces.counts (keeps-lent s.host now steps k.past k.line) (others-lent s.host now steps x.key k.others) (none-lent s.host now steps k.line)
     y replaces.changed (stands-rested now y k.stands) k.key k.maximum)
 
@@ -85,7 +85,7 @@ pub answers-along : {E : Type 0} (S s after : SessionState) (steps : List Kernel
 answers-along S s after steps at now last before text (Err error) call view is host rest answers = tt
 answers-along S s after steps at now last before text (Ok done) call view is host rest answers =
     λ state r.
-    subst (λ (h : HostState). Answered (record after { host = h }) (string_bytes before) (string_bytes text) (along_steps state steps call)) (sym rest)
+    rw rest
     (rested-answered after now (string_bytes before) (string_bytes text) (call (with_steps state steps)) host
     (answers (with_steps state steps) (represents-lent s steps at is state (view ∙ r))))
 
@@ -101,5 +101,5 @@ steps-represent s S steps at last view is rest state r = rw (rest, is, view ∙ 
 pub spare-lent : (s S : SessionState) (steps : List KernelStep) (at now last : HostState) → s ≡ S → at ≡ record s.host { steps = steps } → LineGoesOn at now → last ≡ host_rest now → length steps ≤ S.host.kernel.spare → last.kernel.spare + length steps ≡ S.host.kernel.spare
 spare-lent s S steps at now last view is line rest room =
     let h = is ∙ ap (λ (v : SessionState). record v.host { steps = steps }) view in
-    subst (λ (g : HostState). g.kernel.spare + length steps ≡ S.host.kernel.spare) (sym rest)
-    (rest-spare (lent_host S.host steps) now (subst (λ (g : HostState). LineGoesOn g now) h line) room)
+    rw rest
+    (rest-spare (lent_host S.host steps) now (rw h at line) room)

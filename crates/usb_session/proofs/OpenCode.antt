@@ -71,8 +71,8 @@ open-here s after d key bus address sound tried stands free put =
 
 pub open-sound : (s : SessionState) (now : HostState) (after : List (Option ℕ)) (d key bus address : ℕ) → IsSound s → open_key s.host bus address ≡ Ok key → now ≡ host_opened s.host bus address → StandsDevice now key → is_free s.devices d ≡ true → after ≡ set_name s.devices d key → IsSound (record s { host = now; devices = after })
 open-sound s now after d key bus address sound tried is stands free put =
-    subst (λ (h : HostState). IsSound (record s { host = h; devices = after })) (sym is)
-    (open-here s after d key bus address sound tried (subst (λ (h : HostState). StandsDevice h key) is stands) free put)
+    rw is
+    (open-here s after d key bus address sound tried (rw is at stands) free put)
 
 -- the state in which it is open
 open-by : (state : State) (host now : HostState) (after : List (Option ℕ)) (d key : ℕ) (t : Result ℕ ErrorState) → t ≡ Ok key → now ≡ host → after ≡ set_name state.devices d key → Gives (record (session_of state) { host = now; devices = after }) ok_line (opened_as (with_host state host) d t)

@@ -66,7 +66,7 @@ module _ {X Y E : Type 0} (names : State → List (Option X)) (kept : SessionSta
       (λ (line : string_bytes text ≡ string_bytes before ++ condition_line) (state : State) (r : Represents s state).
       answered-none after (string_bytes before) (string_bytes text) (named (names state) m) (call state) (condition_answer state)
       (kept-none v (names state) (kept s) (keeps s state r) m (ap (named (kept s)) (sym same) ∙ none))
-      (told-answered after state (string_bytes before) (string_bytes text) condition_line (subst (λ z. Represents z state) (sym stays) r) line))
+      (told-answered after state (string_bytes before) (string_bytes text) condition_line (stays ∙ r) line))
 
 -- an endpoint was called, where the session has this host; or a reader; or a writer
 module _ {E : Type 0} (s : SessionState) (at now : HostState) (n m : ℕ) (same : n ≡ m) (before text : String Global) (result : Result Unit E) where
