@@ -151,8 +151,8 @@ module _ (a : Answer) (state : State) (e : EndpointName) (h : Endpoint) (stream 
       let y : EndpointState = record x { pending = others } in
       let next = l.taken ++ front ∷ [] in
       let now : front_taken front (by_now h l.taken x) ≡ by_now h next y =
-          ap (λ (p : List ℕ). record h { state = record x { pending = drop 1 p }; taken = (h.taken ++ l.taken) ++ front ∷ [] }) is
-          ∙ ap (λ (ts : List ℕ). record h { state = y; taken = ts }) (append_assoc h.taken l.taken (front ∷ [])) in
+      ap (λ (p : List ℕ). record h { state = record x { pending = drop 1 p }; taken = (h.taken ++ l.taken) ++ front ∷ [] }) is
+      ∙ ap (λ (ts : List ℕ). record h { state = y; taken = ts }) (append_assoc h.taken l.taken (front ∷ [])) in
       record {
         taken = next;
         are =

@@ -125,7 +125,7 @@ transfer_made-does state e b timeout h here none =
     let whole = changed-own state (with_taken n) e h here (host_taken last.host n) in
     let front : (with_submission n h).state.pending ≡ n ∷ [] = ap (λ (l : List ℕ). l ++ n ∷ []) none in
     let taken : with_taken n h ≡ front_taken n (with_submission n h) =
-        ap (λ (l : List ℕ). record h { state = record h.state { pending = l }; taken = h.taken ++ n ∷ [] }) (none ∙ sym (ap (λ (l : List ℕ). drop 1 l) front)) in
+    ap (λ (l : List ℕ). record h { state = record h.state { pending = l }; taken = h.taken ++ n ∷ [] }) (none ∙ sym (ap (λ (l : List ℕ). drop 1 l) front)) in
     submits (Own e) b h here first (goes {next = last} (record { keeps = on-blocked sent.host n timeout; count = blocked-count sent.host n timeout; endpoints = λ d. refl; names = refl; futures = refl })
     (takes {state = last} {next = (transfer_made state e b timeout h).state} (Own e) n [] (with_submission n h) found.0 first.endpoints.here front found.1 (ap waited_line found.1)
     (subst (λ g. Changes last (transfer_made state e b timeout h).state (host_taken last.host n) (Own e) (Some g)) taken (then-changes here_last whole)) (quiet-same (transfer_made state e b timeout h).state)))

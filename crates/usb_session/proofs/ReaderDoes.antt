@@ -115,7 +115,7 @@ called-does state r x consumed bytes y w line us timeout is other same keeps =
     let here = ap (option_map endpoint_of_reader) is in
     let by_call = taken_by_call (tickets_of state) (tickets_of (with_host state w.bus)) x.state.endpoint.pending w.reader.endpoint.pending in
     let took : Changes state a.state w.bus e (Some (record { state = w.reader.endpoint; taken = x.before ++ (x.taken ++ by_call); was_streamed = true })) → Changes state a.state w.bus e (Some (record { state = w.reader.endpoint; taken = (x.before ++ x.taken) ++ by_call; was_streamed = true })) =
-        subst (λ (ts : List ℕ). Changes state a.state w.bus e (Some (record { state = w.reader.endpoint; taken = ts; was_streamed = true }))) (sym (append_assoc x.before x.taken by_call)) in
+    subst (λ (ts : List ℕ). Changes state a.state w.bus e (Some (record { state = w.reader.endpoint; taken = ts; was_streamed = true }))) (sym (append_assoc x.before x.taken by_call)) in
     called-acts state a e h w.bus w.reader.endpoint tt refl here other
     (took (reader-changes state _ _ r _ (change-changes _ state.readers r x is))) (
     keeps

@@ -3,7 +3,7 @@ use Rattle.std.proofs.Common.{◌≡◌, ℕ, List, ◌++◌, Option, Some, None
 use Rattle.std.specs.Prelude.{OnOk}
 use Rattle.std.specs.Option.{option_map}
 use Rattle.usb_session_text.specs.Calls.{condition_line}
-use Rattle.usb_session_calls.specs.Names.{named, is_free}
+use Rattle.usb_session_calls.specs.Names.{is_free}
 use Rattle.usb_io.specs.Readers.{ReaderState}
 use Rattle.usb_io.specs.Writers.{WriterState}
 use Rattle.usb_session_calls.specs.State.{State, Endpoint, Reader, Writer, endpoint_of_reader, endpoint_of_writer}
@@ -13,7 +13,7 @@ use Rattle.usb_session_calls.specs.Answer.{Answer, answer_with, condition_answer
 use Rattle.usb_session_calls.specs.Answered.{Answered}
 use Rattle.usb_session_calls.specs.SessionState.{SessionState, open_under}
 use Rattle.usb_session_calls.specs.Relation.{Represents}
-use Rattle.usb_session_calls.proofs.NameLemmas.{named-map, is_free-map}
+use Rattle.usb_session_calls.proofs.NameLemmas.{is_free-map}
 
 -- a session stands for the state behind an answer, which prints this line
 pub record Gives (s : SessionState) (line : List ℕ) (a : Answer) : Type 0 where
@@ -51,22 +51,12 @@ answered-some s before after o x call otherwise some is = subst (λ p. Answered 
 pub host_is : (s : SessionState) (state : State) → Represents s state → s.host ≡ state.host
 host_is s state r = ap (λ (v : SessionState). v.host) r
 
--- of an endpoint the session keeps what its calls see
-pub named_kept : (s : SessionState) (state : State) (e : ℕ) → Represents s state → named s.endpoints e ≡ option_map (λ (x : Endpoint). x.state) (named state.endpoints e)
-named_kept s state e r = ap (λ (v : SessionState). named v.endpoints e) r ∙ named-map (λ (x : Endpoint). x.state) state.endpoints e
-
+-- a name is free in both, or in none
 pub free_kept : (s : SessionState) (state : State) (e : ℕ) → Represents s state → is_free s.endpoints e ≡ is_free state.endpoints e
 free_kept s state e r = ap (λ (v : SessionState). is_free v.endpoints e) r ∙ is_free-map (λ (x : Endpoint). x.state) state.endpoints e
 
--- the same of each endpoint that is open
+-- of an endpoint that is open the session keeps what its calls see
 pub under_kept : (s : SessionState) (state : State) (e : EndpointName) → Represents s state → open_under s e ≡ option_map (λ (x : Endpoint). x.state) (endpoint_under state e)
 under_kept s state e r =
     ap (λ (v : SessionState). open_under v e) r
     ∙ held-seen (λ (x : Endpoint). x.state) (λ (x : Reader). x.state) (λ (x : Writer). x.state) endpoint_of_reader endpoint_of_writer (λ (x : ReaderState). x.endpoint) (λ (x : WriterState). x.endpoint) (λ x. refl) (λ x. refl) state.endpoints state.readers state.writers e
-
-none_by : (o : Option Endpoint) → option_map (λ (x : Endpoint). x.state) o ≡ None → o ≡ None
-none_by None is = refl
-none_by (Some h) is = absurd (cc)
-
-pub none_kept : (s : SessionState) (state : State) (e : ℕ) → Represents s state → named s.endpoints e ≡ None → named state.endpoints e ≡ None
-none_kept s state e r is = none_by (named state.endpoints e) (sym (named_kept s state e r) ∙ is)

@@ -18,11 +18,10 @@ use Rattle.usb_device.proofs.StandLemmas.{StandsInterface-same}
 use Rattle.usb_session_calls.specs.Names.{named, change_named, freed, set_name}
 use Rattle.usb_io.specs.Readers.{ReaderState}
 use Rattle.usb_io.specs.Writers.{WriterState}
-use Rattle.usb_session_calls.specs.EndpointNames.{EndpointName, Own, OfReader, OfWriter, endpoint_under}
+use Rattle.usb_session_calls.specs.EndpointNames.{EndpointName, Own, OfReader, OfWriter}
 use Rattle.usb_session_calls.specs.State.{State, Endpoint, Reader, Writer}
 use Rattle.usb_session_calls.specs.SessionState.{SessionState, IsSound, open_under}
 use Rattle.usb_session_calls.specs.Relation.{Represents}
-use Rattle.usb_session_calls.proofs.Answering.{under_kept}
 use Rattle.usb_session_calls.proofs.EndpointNameLemmas.{Changed, ChangedAt, changed-back, changed-gone, own-changed, reader-changed, writer-changed}
 use Rattle.usb_session_calls.proofs.CountedNames.{counted-goes}
 use Rattle.usb_session_calls.proofs.CountedDevices.{devices-kept}
@@ -174,19 +173,6 @@ sound-host s now sound keeps stands none =
       futures_differ = sound.futures_differ;
       futures_apart = sound.futures_apart;
     }
-
--- the endpoint of a state under a name at which the session has one
-pub record OpenAt (state : State) (e : EndpointName) (x : EndpointState) : Type 0 where
-  pub entry : Endpoint
-  pub is : endpoint_under state e ≡ Some entry
-  pub same : entry.state ≡ x
-
-open_by : (state : State) (e : EndpointName) (x : EndpointState) (o : Option Endpoint) → endpoint_under state e ≡ o → option_map (λ (h : Endpoint). h.state) o ≡ Some x → OpenAt state e x
-open_by state e x None at is = absurd (none-some x is)
-open_by state e x (Some h) at is = record { entry = h; is = at; same = same_Some h.state x is }
-
-pub open_at : (s : SessionState) (state : State) (e : EndpointName) (x : EndpointState) → Represents s state → open_under s e ≡ Some x → OpenAt state e x
-open_at s state e x r is = open_by state e x (endpoint_under state e) refl (sym (under_kept s state e r) ∙ is)
 
 -- a state with another host, and other endpoints, readers and writers
 abbrev pub state_with : State → HostState → List (Option Endpoint) → List (Option Reader) → List (Option Writer) → State
