@@ -1,3 +1,4 @@
 pub mod Reports
 pub mod Reading
 pub mod Closing
+pub mod Opening

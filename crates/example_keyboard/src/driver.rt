@@ -1,10 +1,12 @@
 //! The driver.
 
 ghost use Rattle.std.specs.Prelude.{◌≡◌, ◌≤◌, ◌<◌, ◌++◌, [], length, vec_len, vec_capacity, IfOk, IfSome, OnOk, OnErr};
+ghost use Rattle.usb_error.specs.Outcomes.{Tried, result_map};
 ghost use Rattle.usb_kernel.specs.Tickets.{tickets};
 ghost use Rattle.usb_device_endpoint.specs.Handles.{Stands};
 ghost use Rattle.usb_device_host.specs.HostBus.{bus_of};
 ghost use Rattle.example_keyboard.specs.Closing.{LeavesNoneOpen, LeavesOneOpen};
+ghost use Rattle.example_keyboard.specs.Opening.{keyboard_answer};
 ghost use Rattle.example_keyboard.specs.Reports.{report_of};
 ghost use Rattle.example_keyboard.specs.Reading.{brought, last_completion, listed, EndsBy, BringsOne};
 
@@ -33,8 +35,8 @@ const TIMEOUT: u64 = 10_000_000_000;
 ///
 /// # Errors
 ///
-/// Those of opening the device, its interface and its endpoint, and want of memory. No report that
-/// came is lost then either.
+/// The first refusal: of the device, of the claim of its interface, or of its endpoint. Where nothing
+/// is refused, want of memory alone is an error. No report that came is lost then either.
 pub fn read_reports(
     alloc: Global,
     host: &mut Host,
@@ -47,6 +49,7 @@ pub fn read_reports(
     ensures end { IfOk result (λ end. EndsBy end (last_completion host.new.kernel.past)) }
     ensures asked { OnOk result
         (length (tickets host.old.kernel.past) < length (tickets host.new.kernel.past)) }
+    ensures tried { Tried (result_map (λ _. tt) result) (keyboard_answer host.old bus address) }
     ensures closed { LeavesNoneOpen host.old host.new }
 {
     let mut endpoint = open(alloc, host, bus, address)?;
@@ -63,6 +66,7 @@ fn open(
     address: u8,
 ) -> Result<Endpoint<Interrupt, In>, Fail<Error>>
     ensures past { host.new.kernel.past ≡ host.old.kernel.past }
+    ensures tried { Tried (result_map (λ _. tt) result) (keyboard_answer host.old bus address) }
     ensures stands { IfOk result (Stands (bus_of host.new)) }
     ensures fresh { IfOk result (λ e. e.pending ≡ []) }
     ensures input { IfOk result (λ e. 128 ≤ e.address) }
