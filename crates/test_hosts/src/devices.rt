@@ -4,7 +4,7 @@ ghost use Rattle.std.specs.Prelude.{◌≡◌, [], IfOk};
 
 use std::alloc::Global;
 use usb_desc::NoMemory;
-use usb_kernel::{Bytes, Kernel, SimDevice};
+use usb_kernel::{Bytes, Descriptors, Kernel, SimDevice};
 
 /// The descriptors of a device of one configuration of value 1 with interface 0, which has bulk IN
 /// endpoint 0x81 and bulk OUT endpoint 0x02 of packets of 64 bytes.
@@ -25,7 +25,7 @@ pub fn new_kernel(alloc: Global, descriptors: &[u8]) -> Result<Kernel, NoMemory>
         address: 6,
         speed: 3,
         config: 1,
-        bytes: Bytes::from_slice(alloc, descriptors)?,
+        bytes: Descriptors::from_slice(alloc, descriptors)?,
         drivers: Bytes::from_vec(Vec::new(alloc)),
     };
     // the kernel's own is a copy

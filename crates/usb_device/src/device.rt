@@ -93,7 +93,7 @@ impl Device {
     /// behind it. Each of the three that is asked uses up the refusal that is armed for it. Where
     /// memory is wanting nothing has changed.
     pub fn open_at(
-        alloc: Global,
+        _alloc: Global,
         host: &mut Host,
         bus: u8,
         address: u8,
@@ -103,7 +103,7 @@ impl Device {
         ensures stands { IfOk result (StandsDevice host.new) }
         ensures handles { HandlesStand host.old host.new }
     {
-        match host.open_device(alloc, bus, address) {
+        match host.open_device(bus, address) {
             Ok(key) => Ok(Device { key }),
             Err(error) => Err(error),
         }

@@ -32,8 +32,8 @@ pub use usb_error::{
     ActiveConfigurationError, Error, ErrorKind, GetDescriptorError, IoFault, IoKind, Message,
 };
 pub use usb_kernel::{
-    Body, Bytes, Done, Event, Kernel, KernelCall, KernelStep, SimDevice, Submission, Submitted,
-    TicketInfo, errno,
+    Body, Bytes, Descriptors, Done, Event, Kernel, KernelCall, KernelStep, SimDevice, Submission,
+    Submitted, TicketInfo, errno,
 };
 pub use usb_xfer::{
     Any, Buffer, Bulk, BulkOrInterrupt, Completion, EndpointDirection, EndpointType, In, Interrupt,

@@ -14,7 +14,7 @@ use usb_desc::{NoMemory, errno};
 use usb_device_host::Host;
 use usb_enum_sysfs::Speed;
 use usb_kernel::Kernel;
-use usb_kernel_devices::{Bytes, KernelCall, KernelStep, SimDevice};
+use usb_kernel_devices::{Bytes, Descriptors, KernelCall, KernelStep, SimDevice};
 
 /// A device that is simulated, and the steps that it is to make. `host` gives a host on which it is
 /// plugged, and at which a driver finds it.
@@ -91,7 +91,7 @@ impl SimBench {
             address: 6,
             speed: 3,
             config: 1,
-            bytes: Bytes::from_slice(alloc, descriptors)?,
+            bytes: Descriptors::from_slice(alloc, descriptors)?,
             drivers: Bytes::from_vec(Vec::new(alloc)),
         };
         Ok(SimBench {

@@ -12,39 +12,33 @@ ghost use Rattle.usb_device_tables.specs.History.{value_at};
 ghost use Rattle.usb_device_tables.specs.declared.registry.Key.{Key};
 
 use crate::host::Host;
-use std::alloc::Global;
 use usb_desc::{Configurations, DeviceDescriptor, Fail, NoMemory, concatenated};
 use usb_device_ledger::OpenDevice;
 use usb_device_tables::Key;
 use usb_error::Error;
-use usb_kernel::{Bytes, Kernel};
+use usb_kernel::{Descriptors, Kernel};
 
-/// All descriptors of a device.
+/// All descriptors of a device, shared with the kernel.
 #[tactic(auto, unfolding(crate::specs::Opens::descriptors_tried))]
-fn read_descriptors(kernel: &mut Kernel, alloc: Global, device: u8) -> Result<Bytes, Fail<Error>>
+fn read_descriptors(kernel: &mut Kernel, device: u8) -> Result<Descriptors, Fail<Error>>
     ensures tried { Tried result (descriptors_tried device kernel.old).answer }
     ensures kernel { Leaves result kernel.new
         (descriptors_tried device kernel.old).kernel kernel.old }
 {
-    let bytes = match kernel.read_descriptors(device) {
-        Ok(bytes) => bytes,
+    let descriptors = match kernel.read_descriptors(device) {
+        Ok(descriptors) => descriptors,
         Err(errno) => return Err(Fail::Cause(Error::read_descriptors(errno))),
     };
-    match Bytes::from_slice(alloc, bytes) {
-        Ok(bytes) => Ok(bytes),
-        Err(_) => Err(Fail::Memory),
+    match descriptors.clone() {
+        Ok(descriptors) => Ok(descriptors),
+        Err(NoMemory) => Err(Fail::Memory),
     }
 }
 
 /// Opens the device at a bus and an address: the kernel's open, its descriptors, the device
 /// descriptor among them, and its active configuration, in this order.
 #[tactic(auto, unfolding(crate::specs::Opens::open_tried))]
-fn open_at(
-    kernel: &mut Kernel,
-    alloc: Global,
-    bus: u8,
-    address: u8,
-) -> Result<OpenDevice, Fail<Error>>
+fn open_at(kernel: &mut Kernel, bus: u8, address: u8) -> Result<OpenDevice, Fail<Error>>
     ensures tried { Tried result (open_tried bus address kernel.old).answer }
     ensures kernel { Leaves result kernel.new
         (open_tried bus address kernel.old).kernel kernel.old }
@@ -53,7 +47,7 @@ fn open_at(
         Ok(device) => device,
         Err(errno) => return Err(Fail::Cause(Error::open(errno))),
     };
-    let descriptors = match read_descriptors(kernel, alloc, device) {
+    let descriptors = match read_descriptors(kernel, device) {
         Ok(descriptors) => descriptors,
         Err(error) => return Err(error),
     };
@@ -79,12 +73,12 @@ impl Host {
     /// descriptor (USB 2.0, section 9.6.1), and then its active configuration. What is refused
     /// first is the error, and nothing is asked behind it. Each of the three that is asked uses up
     /// the refusal that is armed for it. Where memory is wanting nothing has changed.
-    pub fn open_device(&mut self, alloc: Global, bus: u8, address: u8) -> Result<Key, Fail<Error>>
+    pub fn open_device(&mut self, bus: u8, address: u8) -> Result<Key, Fail<Error>>
         ensures tried { Tried (result_map (λ (key : Key). key.serial) result)
             (open_key self.old bus address) }
         ensures host { Leaves result self.new (host_opened self.old bus address) self.old }
     {
-        match open_at(&mut self.kernel, alloc, bus, address) {
+        match open_at(&mut self.kernel, bus, address) {
             Ok(opened) => self.keep_device(opened),
             Err(error) => Err(error),
         }

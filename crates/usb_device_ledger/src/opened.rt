@@ -4,7 +4,7 @@ ghost use Rattle.std.specs.Prelude.{◌≡◌};
 ghost use Rattle.usb_device_ledger.specs.Devices.{is_held};
 
 use usb_desc::DeviceDescriptor;
-use usb_kernel::Bytes;
+use usb_kernel::Descriptors;
 
 /// An open device: its number at the kernel, the value of the active configuration that the kernel
 /// gave last, or that was set since (USB 2.0, sections 9.4.2 and 9.4.7), its device descriptor, all
@@ -15,7 +15,7 @@ pub struct OpenDevice {
     pub device: u8,
     pub configuration: u8,
     pub device_descriptor: DeviceDescriptor,
-    pub descriptors: Bytes,
+    pub descriptors: Descriptors,
     pub handles: usize,
     pub interfaces: usize,
 }

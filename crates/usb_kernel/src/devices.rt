@@ -15,7 +15,9 @@ use crate::kernel::Kernel;
 use crate::once::unplug_with;
 use std::marker::Brand;
 use std::sync::ledger::Blank;
-use usb_kernel_devices::{DeviceCall, KernelCall, answer, number_at, plugged, release_interface};
+use usb_kernel_devices::{
+    Descriptors, DeviceCall, KernelCall, answer, number_at, plugged, release_interface,
+};
 
 impl Kernel {
     /// The number of the first plugged device at an address of a bus. The errno is 2 where there is
@@ -35,7 +37,7 @@ impl Kernel {
 
     /// The descriptors of a device. The errno is 19 where no plugged device has the number, and
     /// else that of an armed refusal.
-    pub fn read_descriptors(&mut self, device: u8) -> Result<&[u8], u16>
+    pub fn read_descriptors(&mut self, device: u8) -> Result<&Descriptors, u16>
         ensures bytes { IfOk result (λ bytes.
             asked self.old device KernelCall.ReadDesc no_rules (λ d. d.bytes) ≡ Ok bytes.now) }
         ensures err { IfErr result (λ errno.
@@ -47,7 +49,7 @@ impl Kernel {
             return Err(errno);
         }
         match plugged(&self.devices, device) {
-            Some(device) => Ok(device.bytes.as_slice()),
+            Some(device) => Ok(&device.bytes),
             None => Err(errno::NODEV),
         }
     }

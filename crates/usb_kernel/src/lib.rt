@@ -37,5 +37,5 @@ pub use looks::Steps;
 pub use submission::{Done, Submission, Submitted, TicketInfo};
 pub use usb_desc::errno;
 pub use usb_kernel_devices::{
-    Armed, Bytes, DeviceState, InterfaceSet, KernelCall, KernelStep, SimDevice,
+    Armed, Bytes, Descriptors, DeviceState, InterfaceSet, KernelCall, KernelStep, SimDevice,
 };

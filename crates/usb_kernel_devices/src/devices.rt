@@ -5,6 +5,7 @@ ghost use Rattle.usb_kernel_devices.specs.Devices.{fresh_device, has_device_numb
 ghost use Rattle.usb_kernel_devices.specs.Claims.{is_at, result_by, has_interface, no_rules, release_result, without_claim, after_release};
 
 use crate::bytes::Bytes;
+use crate::descriptors::Descriptors;
 use crate::interfaces::InterfaceSet;
 use std::alloc::Global;
 use usb_desc::{NoMemory, errno, find_configuration};
@@ -18,12 +19,12 @@ pub struct SimDevice {
     pub address: u8,
     pub speed: u8,
     pub config: u8,
-    pub bytes: Bytes,
+    pub bytes: Descriptors,
     pub drivers: Bytes,
 }
 
 impl SimDevice {
-    /// The same device once more, with descriptors of its own.
+    /// The same device once more. Both share the descriptors.
     pub fn clone(&self) -> Result<SimDevice, NoMemory>
         ensures same { IfOk result (λ copy. copy ≡ self.now) }
     {
@@ -40,7 +41,7 @@ pub struct DeviceState {
     pub address: u8,
     pub speed: u8,
     pub configuration: u8,
-    pub bytes: Bytes,
+    pub bytes: Descriptors,
     pub plugged: bool,
     pub claimed: InterfaceSet,
     pub bound: InterfaceSet,

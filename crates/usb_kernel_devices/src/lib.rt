@@ -4,6 +4,7 @@
 
 mod bytes;
 mod calls;
+mod descriptors;
 mod devices;
 mod interfaces;
 mod refusals;
@@ -11,6 +12,7 @@ mod step;
 
 pub use bytes::Bytes;
 pub use calls::{DeviceCall, answer};
+pub use descriptors::Descriptors;
 pub use devices::{
     DeviceState, SimDevice, fresh_devices, number_at, plugged, release_interface, unplug_device,
 };

@@ -16,7 +16,7 @@ use std::sync::Wait;
 use std::thread::{Threads, join, yield_now};
 use usb_desc::{NoMemory, TransferType};
 use usb_device_endpoint::Route;
-use usb_kernel::{Bytes, Kernel, KernelStep, SimDevice};
+use usb_kernel::{Bytes, Descriptors, Kernel, KernelStep, SimDevice};
 use usb_xfer::{Buffer, Notify};
 
 /// The descriptors of the device: one configuration with one interface, a bulk IN endpoint 0x81 and a bulk OUT endpoint 0x02.
@@ -45,7 +45,7 @@ fn one_device(alloc: Global) -> Result<Kernel, NoMemory> {
         address: 6,
         speed: 3,
         config: 1,
-        bytes: Bytes::from_slice(alloc, &DESCRIPTORS)?,
+        bytes: Descriptors::from_slice(alloc, &DESCRIPTORS)?,
         drivers: Bytes::from_vec(Vec::new(alloc)),
     };
     let mut devices = Vec::new(alloc);

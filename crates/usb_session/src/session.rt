@@ -17,7 +17,7 @@ use usb_device::{Device, Host, Interface, TransferFuture};
 use usb_device_endpoint::Endpoint;
 use usb_enum::{AttrTree, HotplugWatch, watch_devices};
 use usb_io::{EndpointRead, EndpointWrite};
-use usb_kernel::{Bytes, Kernel, SimDevice};
+use usb_kernel::{Bytes, Descriptors, Kernel, SimDevice};
 use usb_script_lines::Item;
 use usb_session_calls::{drop_names, no_names};
 use usb_session_tree::{packets_of, tree_of};
@@ -106,7 +106,7 @@ fn device_of_item(
             configuration,
             descriptors,
         } => {
-            let bytes = Bytes::from_slice(alloc, descriptors.as_slice())?;
+            let bytes = Descriptors::from_slice(alloc, descriptors.as_slice())?;
             let drivers = drivers_of(alloc, device.number(), rest)?;
             let simulated = SimDevice {
                 bus: *bus,

@@ -30,7 +30,7 @@ returns-in-Some-plugged c =
     let found : plugged_device k.devices c.args.device ≡ Some device = ap (λ ds. plugged_device ds c.args.device) (sym devices) ∙ sym c.in-Some-plugged.ensures.device in (
       (refl, λ kernel. tt, before ∙ called-asked k c.args.device call.ReadDesc none),
       record {
-        bytes = sym (asked-found k c.args.device call.ReadDesc (λ (d : DeviceState). d.bytes) device none found) ∙ ap Ok (sym c.as_slice.ensures.bytes);
+        bytes = sym (asked-found k c.args.device call.ReadDesc (λ (d : DeviceState). d.bytes) device none found);
         err = tt;
         rest = tt;
       },
