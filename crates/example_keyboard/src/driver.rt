@@ -12,7 +12,6 @@ ghost use Rattle.example_keyboard.specs.Reading.{brought, last_completion, liste
 
 use crate::end::End;
 use crate::report::Report;
-use std::alloc::Global;
 use usb_device::{
     Completion, Device, Endpoint, Error, Fail, Host, In, Interrupt, NoMemory, TransferError,
 };
@@ -38,7 +37,6 @@ const TIMEOUT: u64 = 10_000_000_000;
 /// The first refusal: of the device, of the claim of its interface, or of its endpoint. Where nothing
 /// is refused, want of memory alone is an error. No report that came is lost then either.
 pub fn read_reports(
-    alloc: Global,
     host: &mut Host,
     bus: u8,
     address: u8,
@@ -52,7 +50,7 @@ pub fn read_reports(
     ensures tried { Tried (result_map (λ _. tt) result) (keyboard_answer host.old bus address) }
     ensures closed { LeavesNoneOpen host.old host.new }
 {
-    let mut endpoint = open(alloc, host, bus, address)?;
+    let mut endpoint = open(host, bus, address)?;
     let end = read_all(host, &mut endpoint, reports);
     endpoint.close(host);
     Ok(end?)
@@ -60,7 +58,6 @@ pub fn read_reports(
 
 /// Opens the keyboard's endpoint. Nothing else is left open.
 fn open(
-    alloc: Global,
     host: &mut Host,
     bus: u8,
     address: u8,
@@ -73,7 +70,7 @@ fn open(
     ensures open { IfOk result (λ e. LeavesOneOpen host.old host.new e.key) }
     ensures refused { OnErr result (LeavesNoneOpen host.old host.new) }
 {
-    Device::open_at(alloc, host, bus, address)?
+    Device::open_at(host, bus, address)?
         .detach_and_into_interface(host, INTERFACE)?
         .into_endpoint(host, ENDPOINT)
 }

@@ -109,16 +109,16 @@ fn bench_of(alloc: Global, case: &Case) -> Result<SimBench, NoMemory> {
 }
 
 /// Reads the reports of the keyboard at address 6 of bus 1, where the device of a bench is.
-fn read(alloc: Global, bench: SimBench, reports: &mut Vec<Report>) -> Result<End, Fail<Error>> {
+fn read(bench: SimBench, reports: &mut Vec<Report>) -> Result<End, Fail<Error>> {
     let mut host = bench.host()?;
-    read_reports(alloc, &mut host, 1, 6, reports)
+    read_reports(&mut host, 1, 6, reports)
 }
 
 #[test]
 fn reports_are_read_until_the_end(rt: HostRuntime) -> Result<(), test::Fail> {
     for row in &ROWS {
         let mut reports = Vec::new(rt.alloc());
-        let end = read(rt.alloc(), bench_of(rt.alloc(), &row.case)?, &mut reports)?;
+        let end = read(bench_of(rt.alloc(), &row.case)?, &mut reports)?;
         assert_eq!(rt; end, row.end, "at {:?}", row.case);
         assert_eq!(rt; reports.as_slice(), row.reports, "at {:?}", row.case);
     }
@@ -129,7 +129,7 @@ fn reports_are_read_until_the_end(rt: HostRuntime) -> Result<(), test::Fail> {
 fn no_keyboard_is_an_error(rt: HostRuntime) -> Result<(), test::Fail> {
     let mut reports = Vec::new(rt.alloc());
     let bench = SimBench::new(rt.alloc(), &KEYBOARD)?.at(1, 7);
-    let end = read(rt.alloc(), bench, &mut reports);
+    let end = read(bench, &mut reports);
     assert!(rt; matches!(end, Err(Fail::Cause(_))));
     assert!(rt; reports.is_empty());
     Ok(())

@@ -92,8 +92,8 @@ fn is_so(alloc: Global, host: &mut Host, case: &Case) -> bool {
         Case::Packet => has_packet(alloc, host),
         Case::Room => leaves_room(alloc, host),
         Case::Texts => matches!(has_texts(alloc, host), Ok(true)),
-        Case::Mapped => is_mapped(alloc, host),
-        Case::Timed => is_timed(alloc, host),
+        Case::Mapped => is_mapped(host),
+        Case::Timed => is_timed(host),
         Case::Slots => has_slots(alloc, host),
     }
 }

@@ -19,7 +19,6 @@ ghost use Rattle.usb_device_host.specs.CallErrors.{Leaves};
 ghost use Rattle.usb_error.specs.Outcomes.{Tried};
 ghost use Rattle.usb_device_tables.specs.History.{value_at};
 
-use std::alloc::Global;
 use std::fmt;
 use std::marker::Model;
 use usb_desc::{
@@ -35,7 +34,7 @@ use usb_xfer::{KnownDirection, KnownType};
 /// A handle of a device that is open at a host. `close` spends it.
 ///
 /// ```
-/// let device = Device::open_at(alloc, host, 1, 6)?;
+/// let device = Device::open_at(host, 1, 6)?;
 /// let vendor = device.device_descriptor(host).vendor_id();
 /// device.close(host);
 /// ```
@@ -60,7 +59,7 @@ impl fmt::Debug for Device {
 /// A handle of an interface that is claimed at a host (USB 2.0, section 9.2.3). `close` spends it.
 ///
 /// ```
-/// let device = Device::open_at(alloc, host, 1, 6)?;
+/// let device = Device::open_at(host, 1, 6)?;
 /// let interface = device.into_interface(host, 0)?;
 /// let selected = interface.set_alt_setting(host, 1);
 /// interface.close(host);
@@ -92,12 +91,7 @@ impl Device {
     /// then its active configuration. What is refused first is the error, and nothing is asked
     /// behind it. Each of the three that is asked uses up the refusal that is armed for it. Where
     /// memory is wanting nothing has changed.
-    pub fn open_at(
-        _alloc: Global,
-        host: &mut Host,
-        bus: u8,
-        address: u8,
-    ) -> Result<Device, Fail<Error>>
+    pub fn open_at(host: &mut Host, bus: u8, address: u8) -> Result<Device, Fail<Error>>
         ensures tried { Tried result (open_key host.old bus address) }
         ensures host { Leaves result host.new (host_opened host.old bus address) host.old }
         ensures stands { IfOk result (StandsDevice host.new) }

@@ -31,7 +31,7 @@ use usb_kernel_devices::{Bytes, Descriptors, KernelCall, KernelStep, SimDevice};
 ///     .packet(0x81, &[0, 0, 0, 0, 0, 0, 0, 0])?
 ///     .unplug()?;
 /// let mut host = bench.host()?;
-/// let device = Device::open_at(alloc, &mut host, 1, 6)?;
+/// let device = Device::open_at(&mut host, 1, 6)?;
 /// ```
 ///
 /// The steps come one at a time, while the driver waits: a wait takes the next step, looks whether

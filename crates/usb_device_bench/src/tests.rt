@@ -28,7 +28,7 @@ fn send(
     requires small { length bytes.now < 2 ^ 31 }
 {
     let buffer = Buffer::from_slice(alloc, bytes)?;
-    let mut endpoint = Device::open_at(alloc, host, 2, 9)?
+    let mut endpoint = Device::open_at(host, 2, 9)?
         .into_interface(host, 0)?
         .into_endpoint::<Bulk, Out>(host, 0x02)?;
     let submitted = endpoint.submit(host, buffer);

@@ -45,7 +45,7 @@ use usb_xfer::{Held, Idle, Pending, Slots, TransferData};
 /// ```
 /// let kernel = Kernel::new(alloc, devices)?;
 /// let mut host = Host::new(alloc, kernel);
-/// let opened = Device::open_at(alloc, &mut host, 1, 6);
+/// let opened = Device::open_at(&mut host, 1, 6);
 /// ```
 #[derive(Drop)]
 pub struct Host {

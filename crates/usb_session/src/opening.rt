@@ -31,7 +31,7 @@ impl Session {
         if !is_free(&self.devices, name.number()) {
             return write_condition(line);
         }
-        match Device::open_at(*line.allocator(), &mut self.host, bus, address) {
+        match Device::open_at(&mut self.host, bus, address) {
             Ok(device) => {
                 put_at(&mut self.devices, name.number(), device);
                 write_ok(line)
@@ -54,7 +54,7 @@ impl Session {
             found.now.numbers.busnum found.now.numbers.address) }
         ensures spare { self.new.host.kernel.spare ≡ self.old.host.kernel.spare }
     {
-        match found.open(*line.allocator(), &mut self.host) {
+        match found.open(&mut self.host) {
             Ok(device) => {
                 put_at(&mut self.devices, name.number(), device);
                 write_ok(line)

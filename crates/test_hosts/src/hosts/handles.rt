@@ -13,7 +13,7 @@ use usb_device::{
 
 /// Whether the device and its interface 0 have their debug texts.
 pub fn has_texts(alloc: Global, host: &mut Host) -> Result<bool, Fail<Error>> {
-    let device = Device::open_at(alloc, host, 1, 6)?;
+    let device = Device::open_at(host, 1, 6)?;
     let of_device = format!(in alloc; "{device:?}");
     let interface = device.into_interface(host, 0)?;
     let of_interface = format!(in alloc; "{interface:?}");
@@ -36,11 +36,11 @@ fn vendor_request() -> ControlIn {
 
 /// Starts a control transfer by a handle of the device, which is closed then. Its deadline is so
 /// many nanoseconds away.
-fn start(alloc: Global, host: &mut Host, timeout: u64) -> Result<TransferFuture, NoMemory>
+fn start(host: &mut Host, timeout: u64) -> Result<TransferFuture, NoMemory>
     ensures future { IfOk result (StandsFuture host.new) }
     ensures unanswered { IfOk result (λ f. IsSome f.ticket) }
 {
-    let Ok(device) = Device::open_at(alloc, host, 1, 6) else {
+    let Ok(device) = Device::open_at(host, 1, 6) else {
         return Err(NoMemory);
     };
     let started = device.start_control_in(host, vendor_request(), timeout);
@@ -49,8 +49,8 @@ fn start(alloc: Global, host: &mut Host, timeout: u64) -> Result<TransferFuture,
 }
 
 /// Whether the length of what a control transfer brings is that of the packet.
-pub fn is_mapped(alloc: Global, host: &mut Host) -> bool {
-    match start(alloc, host, 1_000_000_000) {
+pub fn is_mapped(host: &mut Host) -> bool {
+    match start(host, 1_000_000_000) {
         Ok(future) => {
             let length = future.on(host).map_ok(|bytes: Vec<u8>| bytes.len());
             length.wait() == Ok(PACKET.len())
@@ -60,8 +60,8 @@ pub fn is_mapped(alloc: Global, host: &mut Host) -> bool {
 }
 
 /// Whether the timer cancels a control transfer at its deadline, before its packet comes.
-pub fn is_timed(alloc: Global, host: &mut Host) -> bool {
-    match start(alloc, host, 0) {
+pub fn is_timed(host: &mut Host) -> bool {
+    match start(host, 0) {
         Ok(future) => {
             host.timer();
             matches!(future.wait(host), Err(TransferError::Cancelled))

@@ -89,7 +89,7 @@ fn are_in_three(alloc: Global, host: &mut Host, endpoint: &mut Endpoint<Bulk, In
 
 /// What is found of the slots at bulk IN endpoint 0x81 of the device at bus 1 and address 6.
 fn find(alloc: Global, host: &mut Host) -> Result<bool, Fail<Error>> {
-    let device = Device::open_at(alloc, host, 1, 6)?;
+    let device = Device::open_at(host, 1, 6)?;
     let interface = device.into_interface(host, 0)?;
     let mut endpoint = interface.into_endpoint::<Bulk, In>(host, 0x81)?;
     let one = are_in_one(alloc, host, &mut endpoint);

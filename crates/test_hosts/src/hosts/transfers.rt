@@ -10,7 +10,7 @@ fn read_packet(alloc: Global, host: &mut Host) -> Result<Option<Completion>, Fai
     let Ok(buffer) = Buffer::new(alloc, 64) else {
         return Err(Fail::Memory);
     };
-    let device = Device::open_at(alloc, host, 1, 6)?;
+    let device = Device::open_at(host, 1, 6)?;
     let interface = device.into_interface(host, 0)?;
     let mut endpoint = interface.into_endpoint::<Bulk, In>(host, 0x81)?;
     let done = match endpoint.submit(host, buffer) {
