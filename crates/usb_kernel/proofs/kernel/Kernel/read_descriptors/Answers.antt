@@ -1,4 +1,4 @@
-use Rattle.std.proofs.Common.{◌≡◌, Some, Ok, refl, ap, sym, ◌∙◌}
+use Rattle.std.proofs.Common.{◌≡◌, Some, refl, ap, sym, ◌∙◌}
 use Rattle.usb_kernel_devices.specs.declared.devices.DeviceState.{DeviceState}
 use Rattle.usb_kernel_devices.specs.declared.step.KernelCall.TheVariants as call
 use Rattle.usb_kernel_devices.specs.Devices.{plugged_device}
