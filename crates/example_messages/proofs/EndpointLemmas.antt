@@ -1,0 +1,107 @@
+-- The two endpoints as they are opened and closed.
+use Rattle.std.proofs.Common.{◌≡◌, ◌≢◌, ◌<◌, ◌∙◌, ℕ, arith, Bool, true, false, not, cond, List, Option, Some, None, Result, Ok, Err, refl, ap, sym, subst}
+use Rattle.std.specs.Prelude.{◌==◌, if◌then◌else◌}
+use Rattle.std.proofs.lemmas.Bool.{eq-eqb, ne_eqb}
+use Rattle.std.proofs.Math.Nat.{mod-lt}
+use Rattle.usb_desc.specs.declared.types.Direction.{Direction}
+use Rattle.usb_desc.specs.declared.types.TransferType.{TransferType}
+use Rattle.usb_desc.specs.Fields.{direction_of_address, transfer_type, max_packet_size, max_packet_size_raw}
+use Rattle.usb_error.specs.Errors.{wrong_direction_error, wrong_type_error, no_packet_size_error, endpoint_in_use_error}
+use Rattle.usb_device_tables.specs.History.{value_at}
+use Rattle.usb_device_ledger.specs.Entries.{ClaimedInterface}
+use Rattle.usb_device_endpoint.specs.BusState.{BusState, without_key}
+use Rattle.usb_device_endpoint.specs.EndpointState.{EndpointState}
+use Rattle.usb_device_endpoint.specs.Handles.{Stands, KeepsOthers}
+use Rattle.usb_device_endpoint.proofs.Frames.{Stands-other}
+use Rattle.usb_device_host.specs.HostState.{HostState}
+use Rattle.usb_device_host.specs.HostBus.{bus_of, key_at}
+use Rattle.usb_device_host.specs.Owners.{is_in_use}
+use Rattle.usb_device_host.specs.EndpointRefusals.{same_direction, is_type, endpoint_tried}
+use Rattle.usb_device_host.specs.EndpointOpens.{OpensEndpoint, host_asked, host_tries, endpoint_in}
+use Rattle.usb_io.specs.Along.{KeepsAlong}
+use Rattle.usb_io.specs.Readers.{ReaderState}
+use Rattle.usb_io.specs.Writers.{WriterState}
+use Rattle.example_messages.specs.Endpoints.{MessagesState, IsOpen, BothStand, BothClosed, IsSame, IsSmall}
+
+-- the maximum packet size of an endpoint that may be opened is that of its descriptor, which has 11 bits
+tried-small : (o : Option (List ℕ)) (address : ℕ) (kind : TransferType) (direction : Direction) (used : Bool) (m : ℕ) →
+    endpoint_tried o address kind direction used ≡ Ok m → m < 2048
+tried-small None address kind direction used m is = absurd (cc)
+tried-small (Some d) address kind direction used m is =
+    by (not (same_direction (direction_of_address address) direction)) (not (is_type (transfer_type d) kind)) (max_packet_size d == 0) used is
+  where
+    by : (a b c e : Bool) → (if a then Err wrong_direction_error else if b then Err wrong_type_error else if c then Err no_packet_size_error else if e then Err endpoint_in_use_error else Ok (max_packet_size d)) ≡ Ok m → m < 2048
+    by true b c e is = absurd (cc)
+    by false true c e is = absurd (cc)
+    by false false true e is = absurd (cc)
+    by false false false true is = absurd (cc)
+    by false false false false is =
+        let same : max_packet_size d ≡ m = cc in
+        let some : 0 < 2048 = omega arith in
+        subst (λ n. n < 2048) same (mod-lt (max_packet_size_raw d) some)
+
+tries-small : (h : HostState) (i : ℕ) (c : ClaimedInterface) (address : ℕ) (kind : TransferType) (direction : Direction) (m : ℕ) →
+    host_tries h i c address kind direction ≡ Ok m → m < 2048
+unfolding host_tries
+tries-small h i c address kind direction m is =
+    tried-small (endpoint_in c address (value_at h.devices c.opened)) address kind direction (is_in_use h i address) m is
+
+pub opened-small : (h g : HostState) (key address : ℕ) (kind : TransferType) (direction : Direction) (e : EndpointState) →
+    OpensEndpoint h g key address kind direction (Ok e) → IsSmall e
+opened-small h g key address kind direction e opens =
+    tries-small (host_asked h opens.interface.opened) key opens.interface address kind direction e.maximum opens.tried
+
+-- over what keeps the other endpoints both stand, if the one does
+pub input-kept : (x y : BusState) (input input' output : EndpointState) → BothStand x input output → Stands y input' → IsSame input input' →
+    KeepsOthers x y input.key → BothStand y input' output
+input-kept x y input input' output both stands same keeps = record {
+  input = stands;
+  output = Stands-other x y input.key output keeps (λ key. both.apart (sym key)) both.output;
+  apart = λ key. both.apart (sym (ap (λ (e : EndpointState). e.key) same) ∙ key);
+  small_input = subst (λ n. n < 2048) (sym (ap (λ (e : EndpointState). e.maximum) same)) both.small_input;
+  small_output = both.small_output;
+}
+
+pub output-kept : (x y : BusState) (input output output' : EndpointState) → BothStand x input output → Stands y output' → IsSame output output' →
+    KeepsOthers x y output.key → BothStand y input output'
+output-kept x y input output output' both stands same keeps = record {
+  input = Stands-other x y output.key input keeps both.apart both.input;
+  output = stands;
+  apart = λ key. both.apart (key ∙ ap (λ (e : EndpointState). e.key) same);
+  small_input = both.small_input;
+  small_output = subst (λ n. n < 2048) (sym (ap (λ (e : EndpointState). e.maximum) same)) both.small_output;
+}
+
+-- over a call on the reader, and over one on the writer
+pub read-open : {On : Type 0} (x y : BusState) (m m' : MessagesState) → IsOpen x m → KeepsAlong On x y m.reader.endpoint m'.reader.endpoint →
+    m'.writer ≡ m.writer → IsOpen y m'
+read-open x y m m' both along same =
+    subst (λ (w : WriterState). BothStand y m'.reader.endpoint w.endpoint) (sym same)
+    (input-kept x y m.reader.endpoint m'.reader.endpoint m.writer.endpoint both along.stands along.endpoint along.others)
+
+pub written-open : {On : Type 0} (x y : BusState) (m m' : MessagesState) → IsOpen x m → KeepsAlong On x y m.writer.endpoint m'.writer.endpoint →
+    m'.reader ≡ m.reader → IsOpen y m'
+written-open x y m m' both along same =
+    subst (λ (r : ReaderState). BothStand y r.endpoint m'.writer.endpoint) (sym same)
+    (output-kept x y m.reader.endpoint m.writer.endpoint m'.writer.endpoint both along.stands along.endpoint along.others)
+
+-- an endpoint that is closed is not open, and does not open again
+closed-own : (keys keys' : ℕ → Bool) (k j : ℕ) → keys' ≡ without_key keys k → k ≡ j → keys' j ≡ false
+closed-own keys keys' k j is same =
+    ap (λ (f : ℕ → Bool). f j) is ∙ ap (λ b. if b then false else keys j) (eq-eqb k j same)
+
+stays-closed : (keys keys' : ℕ → Bool) (k j : ℕ) → keys' ≡ without_key keys k → keys j ≡ false → keys' j ≡ false
+stays-closed keys keys' k j is closed =
+    ap (λ (f : ℕ → Bool). f j) is ∙ by (k == j)
+  where
+    by : (b : Bool) → (if b then false else keys j) ≡ false
+    by true = refl
+    by false = closed
+
+pub both-closed : (x y z : HostState) (source target : EndpointState) → key_at y.endpoints ≡ without_key (key_at x.endpoints) source.key →
+    key_at z.endpoints ≡ without_key (key_at y.endpoints) target.key → BothClosed z source target
+both-closed x y z source target one two = record {
+  input = stays-closed (key_at y.endpoints) (key_at z.endpoints) target.key source.key two
+      (closed-own (key_at x.endpoints) (key_at y.endpoints) source.key source.key one refl);
+  output = closed-own (key_at y.endpoints) (key_at z.endpoints) target.key target.key two refl;
+}

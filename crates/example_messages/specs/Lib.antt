@@ -1,0 +1,3 @@
+pub mod Endpoints
+pub mod Faults
+pub mod Asking

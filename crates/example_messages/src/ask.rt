@@ -1,0 +1,154 @@
+//! Requests and their answers.
+
+ghost use Rattle.std.specs.Prelude.{◌≡◌, ◌≤◌, ◌<◌, ◌++◌, IfOk, OnOk, IfErr, OnErr, IsTrue, ◌↔◌, vec_len, [], length, true};
+ghost use Rattle.usb_device_host.specs.HostBus.{bus_of};
+ghost use Rattle.example_messages.specs.Endpoints.{IsSettled, IsOpen, KeepsEndpoints};
+ghost use Rattle.usb_io.specs.Along.{WentOn};
+ghost use Rattle.usb_io.specs.Readers.{is_end, without_end};
+ghost use Rattle.usb_io.specs.Reads.{reading};
+ghost use Rattle.usb_io.specs.Writers.{writing};
+ghost use Rattle.example_messages.specs.Asking.{WritesBytes, WritesMessage, ReadsMessage, SendFails, ReceiveFails, Fails};
+
+use crate::fault::{Fault, read_failed, write_failed};
+use crate::messages::Messages;
+use usb_device::{Fail, Host, NoMemory};
+
+/// The most bytes of an answer.
+pub const LONGEST_ANSWER: usize = 4096;
+
+/// The most bytes of a read.
+const READ_SIZE: usize = 512;
+
+/// The most transfers that are pending at an endpoint.
+const MOST_PENDING: usize = 64;
+
+/// Appends bytes.
+fn append(all: &mut Vec<u8>, bytes: &[u8]) -> Result<(), NoMemory>
+    ensures all { OnOk result (all.new.items ≡ all.old.items ++ bytes.now) }
+{
+    Ok(all.extend_from_slice(bytes)?)
+}
+
+impl Messages {
+    /// Whether nothing of an earlier request is left: no transfer is pending, no byte is unread or
+    /// unsent, and no end and no error stands.
+    pub fn is_settled(&self) -> bool
+        ensures settled { IsTrue result ↔ IsSettled self.now }
+    {
+        self.reader.pending() == 0
+            && self.reader.available() == 0
+            && !self.reader.has_end()
+            && !self.reader.has_error()
+            && self.writer.pending() == 0
+            && self.writer.buffered().unwrap_or(0) == 0
+    }
+
+    /// Sends a request as one message, and gives the message that is the answer.
+    ///
+    /// # Errors
+    ///
+    /// Want of memory, and each fault. The next request is refused then with `Fault::Unsettled`, or
+    /// comes after `restart`.
+    pub fn ask(&mut self, host: &mut Host, request: &[u8]) -> Result<Vec<u8>, Fail<Fault>>
+        requires stands { IsOpen (bus_of host.old) self.old }
+        ensures sent { OnOk result (WritesMessage (bus_of host.old) (bus_of host.new)
+            self.old.writer self.new.writer request.now) }
+        ensures answer { IfOk result (λ answer. ReadsMessage (bus_of host.old) (bus_of host.new)
+            self.old.reader self.new.reader answer.items) }
+        ensures short { IfOk result (λ answer. vec_len answer ≤ LONGEST_ANSWER) }
+        ensures settled { OnOk result (IsSettled self.old) }
+        ensures failed { IfErr result (Fails host.old host.new self.old self.new) }
+        ensures stands { IsOpen (bus_of host.new) self.new }
+        ensures same { KeepsEndpoints self.old self.new }
+    {
+        if !self.is_settled() {
+            return Err(Fail::Cause(Fault::Unsettled));
+        }
+        self.send(host, request)?;
+        self.receive(host)
+    }
+
+    /// Sends a message.
+    fn send(&mut self, host: &mut Host, request: &[u8]) -> Result<(), Fail<Fault>>
+        requires stands { IsOpen (bus_of host.old) self.old }
+        ensures sent { OnOk result (WritesMessage (bus_of host.old) (bus_of host.new)
+            self.old.writer self.new.writer request.now) }
+        ensures failed { IfErr result (SendFails (writing host.new self.new.writer)) }
+        ensures reader { self.new.reader ≡ self.old.reader }
+        ensures went_on { WentOn (bus_of host.old) (bus_of host.new) }
+        ensures stands { IsOpen (bus_of host.new) self.new }
+        ensures same { KeepsEndpoints self.old self.new }
+    {
+        self.write_all(host, request)?;
+        if self.writer.pending() + self.writer.end_need() > MOST_PENDING {
+            return Err(Fail::Cause(Fault::Stuck));
+        }
+        match self.writer.flush_end(host) {
+            Ok(()) => Ok(()),
+            Err(fail) => Err(write_failed(fail)),
+        }
+    }
+
+    /// Writes all bytes of a message, without its end.
+    fn write_all(&mut self, host: &mut Host, request: &[u8]) -> Result<(), Fail<Fault>>
+        requires stands { IsOpen (bus_of host.old) self.old }
+        ensures written { OnOk result (WritesBytes (bus_of host.old) (bus_of host.new)
+            self.old.writer self.new.writer request.now) }
+        ensures failed { IfErr result (SendFails (writing host.new self.new.writer)) }
+        ensures reader { self.new.reader ≡ self.old.reader }
+        ensures went_on { WentOn (bus_of host.old) (bus_of host.new) }
+        ensures stands { IsOpen (bus_of host.new) self.new }
+        ensures same { KeepsEndpoints self.old self.new }
+    {
+        let mut done = 0;
+        'writes: while done < request.len() {
+            match self.writer.write(host, &request[done..]) {
+                Ok(0) => return Err(Fail::Cause(Fault::Stuck)),
+                Ok(count) => done += count,
+                Err(fail) => return Err(write_failed(fail)),
+            }
+        }
+        Ok(())
+    }
+
+    /// Receives a message.
+    fn receive(&mut self, host: &mut Host) -> Result<Vec<u8>, Fail<Fault>>
+        requires stands { IsOpen (bus_of host.old) self.old }
+        ensures answer { IfOk result (λ answer. ReadsMessage (bus_of host.old) (bus_of host.new)
+            self.old.reader self.new.reader answer.items) }
+        ensures short { IfOk result (λ answer. vec_len answer ≤ LONGEST_ANSWER) }
+        ensures failed { IfErr result (ReceiveFails (bus_of host.old) self.old.reader
+            (reading host.new self.new.reader)) }
+        ensures writer { self.new.writer ≡ self.old.writer }
+        ensures stands { IsOpen (bus_of host.new) self.new }
+        ensures same { KeepsEndpoints self.old self.new }
+    {
+        let mut answer = Vec::new(host.allocator());
+        let mut bytes = [0; READ_SIZE];
+        'reads: while answer.len() <= LONGEST_ANSWER {
+            match self.reader.until_short_packet().read(host, &mut bytes) {
+                Ok(0) => {
+                    self.take_end()?;
+                    return Ok(answer);
+                }
+                Ok(count) => append(&mut answer, &bytes[..count])?,
+                Err(fail) => return Err(read_failed(fail)),
+            }
+        }
+        Err(Fail::Cause(Fault::TooLong))
+    }
+
+    /// Takes the end of a message off, which is next.
+    fn take_end(&mut self) -> Result<(), Fail<Fault>>
+        ensures end { OnOk result (is_end self.old.reader ≡ true) }
+        ensures taken { OnOk result (self.new
+            ≡ record self.old { reader = without_end self.old.reader }) }
+        ensures none { OnErr result (self.new ≡ self.old) }
+        ensures stuck { IfErr result (λ e. e ≡ Fail.Cause Fault.Stuck) }
+    {
+        match self.reader.until_short_packet().consume_end() {
+            Ok(()) => Ok(()),
+            Err(_) => Err(Fail::Cause(Fault::Stuck)),
+        }
+    }
+}
