@@ -1,7 +1,7 @@
 -- What the calls of a writer and of a reader come to, one after another.
-use Rattle.std.proofs.Common.{◌≡◌, ◌∙◌, ◌≤◌, ◌<◌, ◌+◌, ℕ, arith, min, List, [], ◌∷◌, ◌++◌, length, take, drop, map, Result, Ok, Err, inl, inr, refl, ap, sym, subst, append_assoc}
-use Rattle.std.specs.Prelude.{true}
-use Rattle.std.proofs.Math.Seq.{take-add}
+use Rattle.std.proofs.Common.{◌≡◌, ◌∙◌, ◌≤◌, ◌<◌, ◌+◌, ◌-◌, ℕ, arith, min, List, [], ◌∷◌, ◌++◌, length, take, drop, map, Result, Ok, Err, inl, inr, refl, ap, sym, subst, append_assoc, length-drop}
+use Rattle.std.specs.Prelude.{true, ◌⊎◌, OnOk}
+use Rattle.std.proofs.Math.Seq.{take-add, take-length}
 use Rattle.std.proofs.lemmas.List.{append-nil, map-append}
 use Rattle.usb_desc.specs.declared.error.Fail.{Fail}
 use Rattle.usb_desc.specs.declared.error.Fail.TheVariants.{Cause, Memory}
@@ -15,6 +15,8 @@ use Rattle.usb_device_endpoint.specs.BusCalls.{BusCalls}
 use Rattle.usb_device_host.specs.HostState.{HostState}
 use Rattle.usb_device_host.specs.HostBus.{bus_of}
 use Rattle.usb_device_host.specs.HostCalls.{host_calls}
+use Rattle.usb_kernel.proofs.Extends.{extends-trans}
+use Rattle.usb_io.specs.Along.{WentOn}
 use Rattle.usb_io.specs.Streams.{Mark, Byte, End}
 use Rattle.usb_io.specs.Following.{History, Follows, FollowsRead}
 use Rattle.usb_io.specs.Readers.{ReaderState, is_end, without_end}
@@ -34,6 +36,7 @@ use Rattle.usb_io.proofs.Following.{later_follows, ending_follows}
 use Rattle.usb_io.proofs.Carrying.{tells_same, tells_trans}
 use Rattle.usb_io.proofs.CarriedLaws.{later_tells}
 use Rattle.example_messages.specs.declared.fault.Fault.{Fault}
+use Rattle.example_messages.specs.declared.fault.Fault.TheVariants as fault
 use Rattle.example_messages.specs.Endpoints.{MessagesState}
 use Rattle.example_messages.specs.Faults.{write_fault, read_fault, fail_with}
 use Rattle.example_messages.specs.Asking.{WritesBytes, WritesMessage, ReadsMessage, WriteFailed, ReadFailed, CameTooLong, SendFails, ReceiveFails, Fails}
@@ -54,17 +57,36 @@ pub write-few : {S : Type 0} (k : BusCalls S) (timeout : ℕ) (src : List ℕ) (
     write_came k timeout src old ≡ answered (Ok n) new → n ≤ length src
 write-few k timeout src old new n is = accepted-few k src (write_drained k timeout old) n new is
 
+-- the journal and the clock went on over one call and then another
+pub went-trans : (x y z : BusState) → WentOn x y → WentOn y z → WentOn x z
+went-trans x y z first second = record {
+  past = extends-trans x.past y.past z.past first.past second.past;
+  clock = let a = first.clock in let b = second.clock in omega (arith, a, b);
+}
+
+-- the rest of a request is what is behind the bytes that were done
+rest-is : (done : ℕ) (request : List ℕ) → take (length request - done) (drop done request) ≡ drop done request
+rest-is done request =
+    ap (λ i. take i (drop done request)) (sym (length-drop done request)) ∙ take-length (drop done request)
+
+pub rest-few : (done n : ℕ) (request : List ℕ) → done ≤ length request → n ≤ length (take (length request - done) (drop done request)) →
+    done + n ≤ length request
+rest-few done n request within few =
+    let count : length (take (length request - done) (drop done request)) ≡ length request - done =
+    ap length (rest-is done request) ∙ length-drop done request in
+    omega (arith, count, few, within)
+
 -- nothing is written to begin with, then more, and then the end
 pub writes-none : (b : BusState) (w : WriterState) (request : List ℕ) → WritesBytes b b w w (take 0 request)
 writes-none b w request = record { writes = []; are = refl; tells = tells_same b w }
 
-pub writes-more : (x y z : BusState) (r s t : WriterState) (request src : List ℕ) (done n : ℕ) → src ≡ drop done request →
-    WritesBytes x y r s (take done request) → TellsOn y z s t (Accept (take n src) ∷ []) → WritesBytes x z r t (take (done + n) request)
+pub writes-more : (x y z : BusState) (r s t : WriterState) (request src : List ℕ) (done n : ℕ) →
+    src ≡ take (length request - done) (drop done request) → WritesBytes x y r s (take done request) → TellsOn y z s t (Accept (take n src) ∷ []) → WritesBytes x z r t (take (done + n) request)
 writes-more x y z r s t request src done n rest before tells = record {
   writes = take n src ∷ before.writes;
   are = ap (λ (ms : List Mark). ms ++ map Byte (take n src)) before.are
       ∙ (sym (map-append Byte (take done request) (take n src))
-      ∙ ap (map Byte) (ap (λ (bs : List ℕ). take done request ++ take n bs) rest ∙ sym (take-add done n request)));
+      ∙ ap (map Byte) (ap (λ (bs : List ℕ). take done request ++ take n bs) (rest ∙ rest-is done request) ∙ sym (take-add done n request)));
   tells = tells_trans x y z r s t (after_writes before.writes []) (Accept (take n src) ∷ []) before.tells tells;
 }
 
@@ -175,3 +197,58 @@ pub read-fails : (b : BusState) (r : ReaderState) (old new : Reading HostState) 
 read-fails b r old new most Memory failed = tt
 read-fails b r old new most (Cause f) failed =
     received-fails b r new f (record { before = old; most = most; answer = f; is = failed; fault_is = refl })
+
+-- neither fails as what is no fault of theirs
+not-write : (f : Fault) (a : WriteFault) → f ≡ write_fault a → (f ≡ fault.Unsettled) ⊎ (f ≡ fault.TooLong) → ⊥
+not-write f write.TimedOut is other = elim other [ inl same ↦ cc (is, same) | inr same ↦ cc (is, same) ]
+not-write f (write.Transfer e) is other = by e is
+  where
+    by : (e : TransferError) → f ≡ write_fault (write.Transfer e) → ⊥
+    by error.Cancelled is = elim other [ inl same ↦ cc (is, same) | inr same ↦ cc (is, same) ]
+    by error.Stall is = elim other [ inl same ↦ cc (is, same) | inr same ↦ cc (is, same) ]
+    by error.Disconnected is = elim other [ inl same ↦ cc (is, same) | inr same ↦ cc (is, same) ]
+    by error.Fault is = elim other [ inl same ↦ cc (is, same) | inr same ↦ cc (is, same) ]
+    by error.InvalidArgument is = elim other [ inl same ↦ cc (is, same) | inr same ↦ cc (is, same) ]
+    by (error.Unknown code) is = elim other [ inl same ↦ cc (is, same) | inr same ↦ cc (is, same) ]
+
+not-read : (a : ReadFault) → fault.Unsettled ≡ read_fault a → ⊥
+not-read read.TimedOut is = cc
+not-read read.UnexpectedEof is = cc
+not-read (read.Transfer e) is = by e is
+  where
+    by : (e : TransferError) → fault.Unsettled ≡ read_fault (read.Transfer e) → ⊥
+    by error.Cancelled is = cc
+    by error.Stall is = cc
+    by error.Disconnected is = cc
+    by error.Fault is = cc
+    by error.InvalidArgument is = cc
+    by (error.Unknown code) is = cc
+
+-- so a request fails where it is not sent, and where no answer is received
+pub fails-sending : (old new : HostState) (m m' : MessagesState) (e : Fail Fault) → SendFails (writing new m'.writer) e → Fails old new m m' e
+fails-sending old new m m' Memory failed = tt
+fails-sending old new m m' (Cause fault.Stuck) failed = tt
+fails-sending old new m m' (Cause fault.Unsettled) failed = absurd (not-write fault.Unsettled failed.answer failed.fault_is (inl refl))
+fails-sending old new m m' (Cause fault.TooLong) failed = absurd (not-write fault.TooLong failed.answer failed.fault_is (inr refl))
+fails-sending old new m m' (Cause fault.Stalled) failed = inl failed
+fails-sending old new m m' (Cause fault.Unplugged) failed = inl failed
+fails-sending old new m m' (Cause fault.TimedOut) failed = inl failed
+fails-sending old new m m' (Cause (fault.Failed error)) failed = inl failed
+
+pub fails-receiving : (old mid new : HostState) (m m' : MessagesState) (r : ReaderState) (e : Fail Fault) → Extends (bus_of old).past (bus_of mid).past →
+    r ≡ m.reader → ReceiveFails (bus_of mid) r (reading new m'.reader) e → Fails old new m m' e
+fails-receiving old mid new m m' r Memory extends same failed = tt
+fails-receiving old mid new m m' r (Cause fault.Stuck) extends same failed = tt
+fails-receiving old mid new m m' r (Cause fault.Unsettled) extends same failed = absurd (not-read failed.answer failed.fault_is)
+fails-receiving old mid new m m' r (Cause fault.TooLong) extends same failed =
+    long-later (bus_of old) (bus_of mid) (bus_of new) m.reader m'.reader extends
+    (subst (λ (r : ReaderState). CameTooLong (bus_of mid) (bus_of new) r m'.reader) same failed)
+fails-receiving old mid new m m' r (Cause fault.Stalled) extends same failed = inr failed
+fails-receiving old mid new m m' r (Cause fault.Unplugged) extends same failed = inr failed
+fails-receiving old mid new m m' r (Cause fault.TimedOut) extends same failed = inr failed
+fails-receiving old mid new m m' r (Cause (fault.Failed error)) extends same failed = inr failed
+
+-- what is so anyway is so where a call went well
+pub on-ok : {A E : Type 0} (r : Result A E) (P : Type 0) → P → OnOk r P
+on-ok (Ok x) P holds = holds
+on-ok (Err error) P holds = tt

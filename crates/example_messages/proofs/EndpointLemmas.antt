@@ -73,17 +73,17 @@ output-kept x y input output output' both stands same keeps = record {
 }
 
 -- over a call on the reader, and over one on the writer
-pub read-open : {On : Type 0} (x y : BusState) (m m' : MessagesState) → IsOpen x m → KeepsAlong On x y m.reader.endpoint m'.reader.endpoint →
-    m'.writer ≡ m.writer → IsOpen y m'
-read-open x y m m' both along same =
-    subst (λ (w : WriterState). BothStand y m'.reader.endpoint w.endpoint) (sym same)
-    (input-kept x y m.reader.endpoint m'.reader.endpoint m.writer.endpoint both along.stands along.endpoint along.others)
+pub read-open : {On : Type 0} (x y : BusState) (r r' : ReaderState) (w w' : WriterState) → BothStand x r.endpoint w.endpoint →
+    KeepsAlong On x y r.endpoint r'.endpoint → w' ≡ w → BothStand y r'.endpoint w'.endpoint
+read-open x y r r' w w' both along same =
+    subst (λ (w : WriterState). BothStand y r'.endpoint w.endpoint) (sym same)
+    (input-kept x y r.endpoint r'.endpoint w.endpoint both along.stands along.endpoint along.others)
 
-pub written-open : {On : Type 0} (x y : BusState) (m m' : MessagesState) → IsOpen x m → KeepsAlong On x y m.writer.endpoint m'.writer.endpoint →
-    m'.reader ≡ m.reader → IsOpen y m'
-written-open x y m m' both along same =
-    subst (λ (r : ReaderState). BothStand y r.endpoint m'.writer.endpoint) (sym same)
-    (output-kept x y m.reader.endpoint m.writer.endpoint m'.writer.endpoint both along.stands along.endpoint along.others)
+pub written-open : {On : Type 0} (x y : BusState) (r r' : ReaderState) (w w' : WriterState) → BothStand x r.endpoint w.endpoint →
+    KeepsAlong On x y w.endpoint w'.endpoint → r' ≡ r → BothStand y r'.endpoint w'.endpoint
+written-open x y r r' w w' both along same =
+    subst (λ (r : ReaderState). BothStand y r.endpoint w'.endpoint) (sym same)
+    (output-kept x y r.endpoint w.endpoint w'.endpoint both along.stands along.endpoint along.others)
 
 -- an endpoint that is closed is not open, and does not open again
 closed-own : (keys keys' : ℕ → Bool) (k j : ℕ) → keys' ≡ without_key keys k → k ≡ j → keys' j ≡ false

@@ -1,10 +1,12 @@
 //! Requests and their answers.
 
-ghost use Rattle.std.specs.Prelude.{◌≡◌, ◌≤◌, ◌<◌, ◌++◌, IfOk, OnOk, IfErr, OnErr, IsTrue, ◌↔◌, vec_len, [], length, true};
+ghost use Rattle.std.specs.Prelude.{◌≡◌, ◌≤◌, ◌<◌, ◌++◌, IfOk, OnOk, IfErr, OnErr, IsTrue, ◌↔◌, vec_len, [], length, take, true};
 ghost use Rattle.usb_device_host.specs.HostBus.{bus_of};
 ghost use Rattle.example_messages.specs.Endpoints.{IsSettled, IsOpen, KeepsEndpoints};
-ghost use Rattle.usb_io.specs.Along.{WentOn};
-ghost use Rattle.usb_io.specs.Readers.{is_end, without_end};
+ghost use Rattle.usb_device_endpoint.specs.BusState.{BusState};
+ghost use Rattle.usb_io.specs.Along.{WentOn, ReadsAlong};
+ghost use Rattle.usb_io.specs.Following.{FollowsRead};
+ghost use Rattle.usb_io.specs.Readers.{ReaderState, is_end, without_end};
 ghost use Rattle.usb_io.specs.Reads.{reading};
 ghost use Rattle.usb_io.specs.Writers.{writing};
 ghost use Rattle.example_messages.specs.Asking.{WritesBytes, WritesMessage, ReadsMessage, SendFails, ReceiveFails, Fails};
@@ -80,7 +82,7 @@ impl Messages {
         ensures same { KeepsEndpoints self.old self.new }
     {
         self.write_all(host, request)?;
-        if self.writer.pending() + self.writer.end_need() > MOST_PENDING {
+        if self.writer.pending() > MOST_PENDING - self.writer.end_need() {
             return Err(Fail::Cause(Fault::Stuck));
         }
         match self.writer.flush_end(host) {
@@ -120,22 +122,38 @@ impl Messages {
         ensures failed { IfErr result (ReceiveFails (bus_of host.old) self.old.reader
             (reading host.new self.new.reader)) }
         ensures writer { self.new.writer ≡ self.old.writer }
-        ensures stands { IsOpen (bus_of host.new) self.new }
-        ensures same { KeepsEndpoints self.old self.new }
+        ensures along { ReadsAlong (bus_of host.old) (bus_of host.new) self.old.reader.endpoint
+            self.new.reader.endpoint }
     {
         let mut answer = Vec::new(host.allocator());
         let mut bytes = [0; READ_SIZE];
         'reads: while answer.len() <= LONGEST_ANSWER {
-            match self.reader.until_short_packet().read(host, &mut bytes) {
-                Ok(0) => {
-                    self.take_end()?;
-                    return Ok(answer);
-                }
-                Ok(count) => append(&mut answer, &bytes[..count])?,
-                Err(fail) => return Err(read_failed(fail)),
+            let count = self.read(host, &mut bytes)?;
+            if count == 0 {
+                self.take_end()?;
+                return Ok(answer);
             }
+            append(&mut answer, &bytes[..count])?;
         }
         Err(Fail::Cause(Fault::TooLong))
+    }
+
+    /// Reads bytes of a message, as many as are there and fit, and none at its end.
+    fn read(&mut self, host: &mut Host, bytes: &mut [u8]) -> Result<usize, Fail<Fault>>
+        requires stands { IsOpen (bus_of host.old) self.old }
+        ensures few { IfOk result (λ n. n ≤ length bytes.old) }
+        ensures read { IfOk result (λ n. FollowsRead (bus_of host.old) (bus_of host.new)
+            self.old.reader self.new.reader (take n bytes.new)) }
+        ensures failed { IfErr result (λ e. (first : BusState) (r : ReaderState)
+            → ReceiveFails first r (reading host.new self.new.reader) e) }
+        ensures along { ReadsAlong (bus_of host.old) (bus_of host.new) self.old.reader.endpoint
+            self.new.reader.endpoint }
+        ensures writer { self.new.writer ≡ self.old.writer }
+    {
+        match self.reader.until_short_packet().read(host, bytes) {
+            Ok(count) => Ok(count),
+            Err(fail) => Err(read_failed(fail)),
+        }
     }
 
     /// Takes the end of a message off, which is next.
