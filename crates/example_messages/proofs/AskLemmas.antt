@@ -1,5 +1,5 @@
 -- What the calls of a writer and of a reader come to, one after another.
-use Rattle.std.proofs.Common.{◌≡◌, ◌∙◌, ◌≤◌, ◌<◌, ◌+◌, ◌-◌, ℕ, arith, min, List, [], ◌∷◌, ◌++◌, length, take, drop, map, Result, Ok, Err, inl, inr, refl, ap, sym, subst, append_assoc, length-drop}
+use Rattle.std.proofs.Common.{◌≡◌, ◌∙◌, ◌≤◌, ◌+◌, ◌-◌, ℕ, arith, List, [], ◌∷◌, ◌++◌, length, take, drop, map, Result, Ok, Err, inl, inr, refl, ap, sym, subst, append_assoc, length-drop}
 use Rattle.std.specs.Prelude.{true, ◌⊎◌, OnOk}
 use Rattle.std.proofs.Math.Seq.{take-add, take-length}
 use Rattle.std.proofs.lemmas.List.{append-nil, map-append}
@@ -15,14 +15,12 @@ use Rattle.usb_device_endpoint.specs.BusCalls.{BusCalls}
 use Rattle.usb_device_host.specs.HostState.{HostState}
 use Rattle.usb_device_host.specs.HostBus.{bus_of}
 use Rattle.usb_device_host.specs.HostCalls.{host_calls}
-use Rattle.usb_kernel.proofs.Extends.{extends-trans}
-use Rattle.usb_io.specs.Along.{WentOn}
 use Rattle.usb_io.specs.Streams.{Mark, Byte, End}
-use Rattle.usb_io.specs.Following.{History, Follows, FollowsRead}
+use Rattle.usb_io.specs.Following.{Follows, FollowsRead}
 use Rattle.usb_io.specs.Readers.{ReaderState, is_end, without_end}
 use Rattle.usb_io.specs.Reads.{Reading, reading}
 use Rattle.usb_io.specs.Writers.{WriterState, Writing, writing}
-use Rattle.usb_io.specs.Writes.{Call, Accept, Finish, marks_of, after_writes}
+use Rattle.usb_io.specs.Writes.{Accept, Finish, after_writes}
 use Rattle.usb_io.specs.Carried.{TellsOn}
 use Rattle.usb_io.specs.Fronts.{Drained}
 use Rattle.usb_io.specs.Answered.{Answered, answered}
@@ -56,13 +54,6 @@ accepted-few {S = S} k src d n new is = by d.answer is
 pub write-few : {S : Type 0} (k : BusCalls S) (timeout : ℕ) (src : List ℕ) (old new : Writing S) (n : ℕ) →
     write_came k timeout src old ≡ answered (Ok n) new → n ≤ length src
 write-few k timeout src old new n is = accepted-few k src (write_drained k timeout old) n new is
-
--- the journal and the clock went on over one call and then another
-pub went-trans : (x y z : BusState) → WentOn x y → WentOn y z → WentOn x z
-went-trans x y z first second = record {
-  past = extends-trans x.past y.past z.past first.past second.past;
-  clock = let a = first.clock in let b = second.clock in omega (arith, a, b);
-}
 
 -- the rest of a request is what is behind the bytes that were done
 rest-is : (done : ℕ) (request : List ℕ) → take (length request - done) (drop done request) ≡ drop done request

@@ -1,7 +1,7 @@
 -- The two endpoints as they are opened and closed.
-use Rattle.std.proofs.Common.{◌≡◌, ◌≢◌, ◌<◌, ◌∙◌, ℕ, arith, Bool, true, false, not, cond, List, Option, Some, None, Result, Ok, Err, refl, ap, sym, subst}
+use Rattle.std.proofs.Common.{◌≡◌, ◌<◌, ◌∙◌, ℕ, arith, Bool, true, false, not, List, Option, Some, None, Ok, Err, refl, ap, sym, subst}
 use Rattle.std.specs.Prelude.{◌==◌, if◌then◌else◌}
-use Rattle.std.proofs.lemmas.Bool.{eq-eqb, ne_eqb}
+use Rattle.std.proofs.lemmas.Bool.{eq-eqb}
 use Rattle.std.proofs.Math.Nat.{mod-lt}
 use Rattle.usb_desc.specs.declared.types.Direction.{Direction}
 use Rattle.usb_desc.specs.declared.types.TransferType.{TransferType}
@@ -14,14 +14,14 @@ use Rattle.usb_device_endpoint.specs.EndpointState.{EndpointState}
 use Rattle.usb_device_endpoint.specs.Handles.{Stands, KeepsOthers}
 use Rattle.usb_device_endpoint.proofs.Frames.{Stands-other}
 use Rattle.usb_device_host.specs.HostState.{HostState}
-use Rattle.usb_device_host.specs.HostBus.{bus_of, key_at}
+use Rattle.usb_device_host.specs.HostBus.{key_at}
 use Rattle.usb_device_host.specs.Owners.{is_in_use}
 use Rattle.usb_device_host.specs.EndpointRefusals.{same_direction, is_type, endpoint_tried}
 use Rattle.usb_device_host.specs.EndpointOpens.{OpensEndpoint, host_asked, host_tries, endpoint_in}
 use Rattle.usb_io.specs.Along.{KeepsAlong}
 use Rattle.usb_io.specs.Readers.{ReaderState}
 use Rattle.usb_io.specs.Writers.{WriterState}
-use Rattle.example_messages.specs.Endpoints.{MessagesState, IsOpen, BothStand, BothClosed, IsSame, IsSmall}
+use Rattle.example_messages.specs.Endpoints.{BothStand, BothClosed, IsSame, OthersStand, IsSmall}
 
 -- the maximum packet size of an endpoint that may be opened is that of its descriptor, which has 11 bits
 tried-small : (o : Option (List ℕ)) (address : ℕ) (kind : TransferType) (direction : Direction) (used : Bool) (m : ℕ) →
@@ -84,6 +84,18 @@ pub written-open : {On : Type 0} (x y : BusState) (r r' : ReaderState) (w w' : W
 written-open x y r r' w w' both along same =
     subst (λ (r : ReaderState). BothStand y r.endpoint w'.endpoint) (sym same)
     (output-kept x y r.endpoint w.endpoint w'.endpoint both along.stands along.endpoint along.others)
+
+-- the other endpoints stand over what keeps all but the one, or all but the other, and over one after another
+pub others-once : (x y : BusState) (source target : EndpointState) → KeepsOthers x y source.key → OthersStand x y source target
+others-once x y source target keeps e apart beside stands = Stands-other x y source.key e keeps apart stands
+
+pub others-other : (x y : BusState) (source target : EndpointState) → KeepsOthers x y target.key → OthersStand x y source target
+others-other x y source target keeps e apart beside stands = Stands-other x y target.key e keeps beside stands
+
+pub others-then : (x y z : BusState) (source target source' target' : EndpointState) → OthersStand x y source target →
+    source'.key ≡ source.key → target'.key ≡ target.key → OthersStand y z source' target' → OthersStand x z source target
+others-then x y z source target source' target' first one two second e apart beside stands =
+    second e (λ same. apart (same ∙ one)) (λ same. beside (same ∙ two)) (first e apart beside stands)
 
 -- an endpoint that is closed is not open, and does not open again
 closed-own : (keys keys' : ℕ → Bool) (k j : ℕ) → keys' ≡ without_key keys k → k ≡ j → keys' j ≡ false

@@ -9,7 +9,7 @@ use Rattle.usb_device_endpoint.specs.BusState.{BusState}
 use Rattle.usb_device_host.specs.HostState.{HostState}
 use Rattle.usb_device_host.specs.HostBus.{bus_of}
 use Rattle.usb_device_host.specs.HostCalls.{host_calls}
-use Rattle.usb_io.specs.Streams.{Mark, Byte, End}
+use Rattle.usb_io.specs.Streams.{Byte, End}
 use Rattle.usb_io.specs.Following.{History, Follows, FollowsRead}
 use Rattle.usb_io.specs.Readers.{ReaderState}
 use Rattle.usb_io.specs.Reads.{Reading, reading}

@@ -1,5 +1,5 @@
 -- The two endpoints of a device that answers messages.
-use Rattle.std.specs.Prelude.{ℕ, ◌≡◌, ◌≢◌, ◌<◌, false, List, [], None, unwrap_or}
+use Rattle.std.specs.Prelude.{◌≡◌, ◌≢◌, ◌<◌, false, [], None, unwrap_or}
 use Rattle.usb_device_endpoint.specs.BusState.{BusState}
 use Rattle.usb_device_endpoint.specs.EndpointState.{EndpointState}
 use Rattle.usb_device_endpoint.specs.Handles.{Stands}
@@ -59,6 +59,14 @@ IsSame e e' = e' ≡ record e { pending = e'.pending }
 pub record KeepsEndpoints (m m' : MessagesState) : Type 0 where
   pub input : IsSame m.reader.endpoint m'.reader.endpoint
   pub output : IsSame m.writer.endpoint m'.writer.endpoint
+
+-- each other endpoint that stood stands
+abbrev pub OthersStand : BusState → BusState → EndpointState → EndpointState → Type 0
+OthersStand old new source target =
+    (e : EndpointState) → e.key ≢ source.key → e.key ≢ target.key → Stands old e → Stands new e
+
+abbrev pub StandBeside : BusState → BusState → MessagesState → Type 0
+StandBeside old new m = OthersStand old new m.reader.endpoint m.writer.endpoint
 
 -- the host has neither endpoint open
 pub record BothClosed (h : HostState) (source target : EndpointState) : Type 0 where

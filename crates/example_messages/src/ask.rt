@@ -2,9 +2,9 @@
 
 ghost use Rattle.std.specs.Prelude.{◌≡◌, ◌≤◌, ◌<◌, ◌++◌, IfOk, OnOk, IfErr, OnErr, IsTrue, ◌↔◌, vec_len, [], length, take, true};
 ghost use Rattle.usb_device_host.specs.HostBus.{bus_of};
-ghost use Rattle.example_messages.specs.Endpoints.{IsSettled, IsOpen, KeepsEndpoints};
+ghost use Rattle.example_messages.specs.Endpoints.{IsSettled, IsOpen, KeepsEndpoints, StandBeside};
 ghost use Rattle.usb_device_endpoint.specs.BusState.{BusState};
-ghost use Rattle.usb_io.specs.Along.{WentOn, ReadsAlong};
+ghost use Rattle.usb_io.specs.Along.{WritesAlong, ReadsAlong};
 ghost use Rattle.usb_io.specs.Following.{FollowsRead};
 ghost use Rattle.usb_io.specs.Readers.{ReaderState, is_end, without_end};
 ghost use Rattle.usb_io.specs.Reads.{reading};
@@ -62,6 +62,7 @@ impl Messages {
         ensures failed { IfErr result (Fails host.old host.new self.old self.new) }
         ensures stands { IsOpen (bus_of host.new) self.new }
         ensures same { KeepsEndpoints self.old self.new }
+        ensures others { StandBeside (bus_of host.old) (bus_of host.new) self.old }
     {
         if !self.is_settled() {
             return Err(Fail::Cause(Fault::Unsettled));
@@ -77,9 +78,8 @@ impl Messages {
             self.old.writer self.new.writer request.now) }
         ensures failed { IfErr result (SendFails (writing host.new self.new.writer)) }
         ensures reader { self.new.reader ≡ self.old.reader }
-        ensures went_on { WentOn (bus_of host.old) (bus_of host.new) }
-        ensures stands { IsOpen (bus_of host.new) self.new }
-        ensures same { KeepsEndpoints self.old self.new }
+        ensures along { WritesAlong (bus_of host.old) (bus_of host.new) self.old.writer.endpoint
+            self.new.writer.endpoint }
     {
         self.write_all(host, request)?;
         if self.writer.pending() > MOST_PENDING - self.writer.end_need() {
@@ -98,9 +98,8 @@ impl Messages {
             self.old.writer self.new.writer request.now) }
         ensures failed { IfErr result (SendFails (writing host.new self.new.writer)) }
         ensures reader { self.new.reader ≡ self.old.reader }
-        ensures went_on { WentOn (bus_of host.old) (bus_of host.new) }
-        ensures stands { IsOpen (bus_of host.new) self.new }
-        ensures same { KeepsEndpoints self.old self.new }
+        ensures along { WritesAlong (bus_of host.old) (bus_of host.new) self.old.writer.endpoint
+            self.new.writer.endpoint }
     {
         let mut done = 0;
         'writes: while done < request.len() {

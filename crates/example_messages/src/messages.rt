@@ -5,7 +5,7 @@ ghost use Rattle.usb_device_endpoint.specs.EndpointState.{EndpointState};
 ghost use Rattle.usb_device_endpoint.specs.Handles.{Stands, KeepsOthers};
 ghost use Rattle.usb_device_host.specs.HostBus.{bus_of, key_at};
 ghost use Rattle.usb_device.specs.HandleStates.{StandsInterface};
-ghost use Rattle.example_messages.specs.Endpoints.{fresh_messages, IsFresh, IsSettled, IsOpen, BothStand, IsClosed, BothClosed, IsSame, KeepsEndpoints, IsSmall};
+ghost use Rattle.example_messages.specs.Endpoints.{fresh_messages, IsFresh, IsSettled, IsOpen, BothStand, IsClosed, BothClosed, IsSame, KeepsEndpoints, OthersStand, StandBeside, IsSmall};
 
 use std::alloc::Global;
 use std::marker::Model;
@@ -121,6 +121,7 @@ impl Messages {
         ensures same { IfOk result (KeepsEndpoints self) }
         ensures stands { IfOk result (IsOpen (bus_of host.new)) }
         ensures closed { OnErr result (IsClosed host.new self) }
+        ensures others { StandBeside (bus_of host.old) (bus_of host.new) self }
     {
         let Messages { reader, writer } = self;
         let mut input = reader.into_inner();
@@ -138,6 +139,7 @@ impl Messages {
     pub fn close(self, host: &mut Host)
         requires stands { IsOpen (bus_of host.old) self }
         ensures closed { IsClosed host.new self }
+        ensures others { StandBeside (bus_of host.old) (bus_of host.new) self }
     {
         let Messages { reader, writer } = self;
         close_both(host, reader.into_inner(), writer.into_inner());
@@ -148,6 +150,7 @@ impl Messages {
 fn close_both(host: &mut Host, input: Endpoint<Bulk, In>, output: Endpoint<Bulk, Out>)
     requires stand { BothStand (bus_of host.old) input output }
     ensures closed { BothClosed host.new input output }
+    ensures others { OthersStand (bus_of host.old) (bus_of host.new) input output }
 {
     input.close(host);
     output.close(host);
@@ -163,6 +166,7 @@ fn restart_both(
     ensures stand { BothStand (bus_of host.new) input.new output.new }
     ensures input { IsSame input.old input.new }
     ensures output { IsSame output.old output.new }
+    ensures others { OthersStand (bus_of host.old) (bus_of host.new) input.old output.old }
 {
     restart_endpoint(host, input)?;
     restart_endpoint(host, output)

@@ -1,6 +1,9 @@
 //! The driver on a simulated device. Expected values come from the packets of the scripts, and from
 //! USB 2.0, section 5.8.3: a message ends with a packet that is shorter than the maximum.
 
+ghost use Rattle.usb_device_host.specs.HostBus.{bus_of};
+ghost use Rattle.example_messages.specs.Endpoints.{IsOpen};
+
 use crate::{Fault, LONGEST_ANSWER, Messages};
 use std::alloc::Global;
 use std::test;
@@ -196,7 +199,9 @@ fn no_request_follows_a_fault_before_a_restart(rt: HostRuntime) -> Result<(), te
 }
 
 /// Whether a restart is refused as that of a device that is gone.
-fn is_refused(host: &mut Host, messages: Messages) -> bool {
+fn is_refused(host: &mut Host, messages: Messages) -> bool
+    requires stands { IsOpen (bus_of host.old) messages }
+{
     match messages.restart(host) {
         Ok(messages) => {
             messages.close(host);

@@ -1,6 +1,4 @@
 -- A read that fails says why.
-use Rattle.std.proofs.Common.{ap, sym, subst}
-use Rattle.usb_io.specs.Reads.{reading}
 use Rattle.example_messages.proofs.AskLemmas.{read-fails}
 use Rattle.example_messages.proofs.messages.Messages.read.Goals as goal
 use Rattle.example_messages.proofs.messages.Messages.read.Goals.{in-Ok, in-Err}

@@ -1,11 +1,12 @@
 -- The end of the message is written behind its bytes.
-use Rattle.std.proofs.Common.{sym, subst, refl}
+use Rattle.std.proofs.Common.{sym, subst}
 use Rattle.usb_device_host.specs.HostBus.{bus_of}
+use Rattle.usb_io.specs.Along.{WritesAlong}
 use Rattle.usb_io.specs.Writers.{writing}
-use Rattle.example_messages.specs.Endpoints.{MessagesState, IsOpen}
+use Rattle.usb_io.proofs.AlongLemmas.{writes-trans}
+use Rattle.example_messages.specs.Endpoints.{MessagesState}
 use Rattle.example_messages.specs.Asking.{WritesBytes}
-use Rattle.example_messages.proofs.EndpointLemmas.{written-open}
-use Rattle.example_messages.proofs.AskLemmas.{writes-end, end-fails, went-trans}
+use Rattle.example_messages.proofs.AskLemmas.{writes-end, end-fails}
 use Rattle.example_messages.proofs.messages.Messages.send.Goals as goal
 use Rattle.example_messages.proofs.messages.Messages.send.Goals.{in-Ok, in-Err}
 
@@ -29,10 +30,7 @@ returns-clause-failed c =
           (end-fails (writing c.write_all.new.host c.self.inside.writer) (writing c.flush_end.new.bus c.flush_end.new.self) w.in-Err.fail w.in-Err.ensures.failed)
     ]
 
-pub returns-clause-went_on : goal.returns-clause-went_on
-returns-clause-went_on c = went-trans _ _ _ c.write_all.ensures.went_on c.flush_end.ensures.goes.goes_on
-
-pub returns-clause-stands : goal.returns-clause-stands
-returns-clause-stands c =
-    written-open (bus_of c.write_all.new.host) _ c.self.inside.reader c.self.inside.reader c.self.inside.writer c.flush_end.new.self
-    (subst (IsOpen (bus_of c.write_all.new.host)) (sym c.self.view_is) c.write_all.ensures.stands) c.flush_end.ensures.goes refl
+pub returns-clause-along : goal.returns-clause-along
+returns-clause-along c =
+    let first = subst (λ (m : MessagesState). WritesAlong (bus_of c.args.host.now) (bus_of c.write_all.new.host) c.args.self.now.writer.endpoint m.writer.endpoint) (sym c.self.view_is) c.write_all.ensures.along in
+    writes-trans {y = bus_of c.write_all.new.host} {f = c.self.inside.writer.endpoint} first c.flush_end.ensures.goes

@@ -1,21 +1,13 @@
 -- Each write accepts more of the request.
-use Rattle.std.proofs.Common.{sym, subst, refl}
+use Rattle.std.proofs.Common.{refl}
 use Rattle.usb_device_host.specs.HostBus.{bus_of}
 use Rattle.usb_io.specs.Writers.{writing}
 use Rattle.usb_io.proofs.AlongLemmas.{writes-trans}
-use Rattle.example_messages.specs.Endpoints.{IsOpen}
-use Rattle.example_messages.proofs.EndpointLemmas.{written-open}
 use Rattle.example_messages.proofs.AskLemmas.{write-few, rest-few, writes-more, write-fails}
 use Rattle.example_messages.proofs.messages.Messages.write_all.Goals as goal
 
-pub returns-in-Ok-eq0-clause-went_on : goal.returns-in-Ok-eq0-clause-went_on
-returns-in-Ok-eq0-clause-went_on c = (writes-trans c.writes.invariant.along c.write.ensures.goes).goes_on
-
-pub returns-in-Ok-eq0-clause-stands : goal.returns-in-Ok-eq0-clause-stands
-returns-in-Ok-eq0-clause-stands c =
-    written-open _ _ c.self.inside.reader _ c.self.inside.writer c.write.new.self
-    (subst (IsOpen (bus_of c.args.host.now)) (sym c.self.view_is) c.requires.stands)
-    (writes-trans c.writes.invariant.along c.write.ensures.goes) c.writes.invariant.reader
+pub returns-in-Ok-eq0-clause-along : goal.returns-in-Ok-eq0-clause-along
+returns-in-Ok-eq0-clause-along c = writes-trans c.writes.invariant.along c.write.ensures.goes
 
 pub writes-preserved : goal.writes-preserved
 writes-preserved c = record {
@@ -31,16 +23,5 @@ pub returns-in-Err-clause-failed : goal.returns-in-Err-clause-failed
 returns-in-Err-clause-failed c =
     rw c.write_failed.ensures.fail (write-fails _ _ _ c.in-Err.fail c.in-Err.ensures.failed)
 
-pub returns-in-Err-clause-went_on : goal.returns-in-Err-clause-went_on
-returns-in-Err-clause-went_on c = (writes-trans c.writes.invariant.along c.write.ensures.goes).goes_on
-
-pub returns-in-Err-clause-stands : goal.returns-in-Err-clause-stands
-returns-in-Err-clause-stands c =
-    written-open _ _ c.self.inside.reader _ c.self.inside.writer c.write.new.self
-    (subst (IsOpen (bus_of c.args.host.now)) (sym c.self.view_is) c.requires.stands)
-    (writes-trans c.writes.invariant.along c.write.ensures.goes) c.writes.invariant.reader
-
-pub returns-clause-stands : goal.returns-clause-stands
-returns-clause-stands c =
-    written-open _ _ c.self.inside.reader c.writes.self-inside.reader c.self.inside.writer c.writes.self-inside.writer
-    (subst (IsOpen (bus_of c.args.host.now)) (sym c.self.view_is) c.requires.stands) c.writes.invariant.along c.writes.invariant.reader
+pub returns-in-Err-clause-along : goal.returns-in-Err-clause-along
+returns-in-Err-clause-along c = writes-trans c.writes.invariant.along c.write.ensures.goes

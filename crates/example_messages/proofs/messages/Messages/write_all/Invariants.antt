@@ -9,7 +9,7 @@ invariant-writes l =
     record {
       within : l.done ≤ length l.request;
       written : WritesBytes (bus_of l.initial.host) (bus_of l.host) l.initial.self-inside.writer l.self-inside.writer (take l.done l.request);
-      along : WritesAlong (bus_of l.initial.host) (bus_of l.host) l.initial.self-inside.writer.endpoint l.self-inside.writer.endpoint;
+      along : WritesAlong (bus_of l.initial.host) (bus_of l.host) l.fn.self.writer.endpoint l.self-inside.writer.endpoint;
       reader : l.self-inside.reader ≡ l.initial.self-inside.reader;
     }
 
