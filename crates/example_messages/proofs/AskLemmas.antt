@@ -25,7 +25,7 @@ use Rattle.usb_io.specs.Carried.{TellsOn}
 use Rattle.usb_io.specs.Fronts.{Drained}
 use Rattle.usb_io.specs.Answered.{Answered, answered}
 use Rattle.usb_io.specs.Answers.{ReadFails}
-use Rattle.usb_io.specs.WriteAnswers.{accepted_count, accepting, write_drained, write_came, WriteFails, FlushEndFails}
+use Rattle.usb_io.specs.WriteAnswers.{accepted_count, accepting, write_drained, write_came, WriteFails, flush_end_came, FlushEndFails}
 use Rattle.usb_io.specs.declared.fault.ReadFault.{ReadFault}
 use Rattle.usb_io.specs.declared.fault.ReadFault.TheVariants as read
 use Rattle.usb_io.specs.declared.fault.WriteFault.{WriteFault}
@@ -81,12 +81,15 @@ writes-more x y z r s t request src done n rest before tells = record {
   tells = tells_trans x y z r s t (after_writes before.writes []) (Accept (take n src) ∷ []) before.tells tells;
 }
 
-pub writes-end : (x y z : BusState) (r s t : WriterState) (bytes : List ℕ) → WritesBytes x y r s bytes → TellsOn y z s t (Finish ∷ []) →
-    WritesMessage x z r t bytes
-writes-end x y z r s t bytes before tells = record {
+pub writes-end : (x y z : BusState) (r s t : WriterState) (bytes : List ℕ) (mid new : HostState) → WritesBytes x y r s bytes →
+    TellsOn y z s t (Finish ∷ []) → flush_end_came host_calls s.timeout (writing mid s) ≡ answered (Ok tt) (writing new t) → WritesMessage x z r t bytes
+writes-end x y z r s t bytes mid new before tells well = record {
   writes = before.writes;
   are = before.are;
   tells = tells_trans x y z r s t (after_writes before.writes []) (Finish ∷ []) before.tells tells;
+  before = writing mid s;
+  behind = new;
+  went_well = well;
 }
 
 -- it stays so, whatever comes
@@ -96,6 +99,9 @@ writes-later x y z w w' bytes extends message = record {
   writes = message.writes;
   are = message.are;
   tells = λ h t. let one = message.tells h t in (one.0, one.1, one.2, one.3, later_tells y.past z.past w' one.0 extends one.4);
+  before = message.before;
+  behind = message.behind;
+  went_well = message.went_well;
 }
 
 -- the events before a lawful journal's last ones are lawful

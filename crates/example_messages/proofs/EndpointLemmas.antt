@@ -1,11 +1,12 @@
 -- The two endpoints as they are opened and closed.
-use Rattle.std.proofs.Common.{◌≡◌, ◌<◌, ◌∙◌, ℕ, arith, Bool, true, false, not, List, Option, Some, None, Ok, Err, refl, ap, sym, subst}
-use Rattle.std.specs.Prelude.{◌==◌, if◌then◌else◌}
+use Rattle.std.proofs.Common.{◌≡◌, ◌<◌, ◌∙◌, ℕ, arith, Bool, true, false, not, List, Option, Some, None, Ok, Err, refl, ap, sym, subst, inr, Result}
+use Rattle.std.specs.Prelude.{◌==◌, if◌then◌else◌, IfErr}
 use Rattle.std.proofs.lemmas.Bool.{eq-eqb}
 use Rattle.std.proofs.Math.Nat.{mod-lt}
 use Rattle.usb_desc.specs.declared.types.Direction.{Direction}
 use Rattle.usb_desc.specs.declared.types.TransferType.{TransferType}
 use Rattle.usb_desc.specs.Fields.{direction_of_address, transfer_type, max_packet_size, max_packet_size_raw}
+use Rattle.usb_error.specs.ErrorState.{ErrorState}
 use Rattle.usb_error.specs.Errors.{wrong_direction_error, wrong_type_error, no_packet_size_error, endpoint_in_use_error}
 use Rattle.usb_device_tables.specs.History.{value_at}
 use Rattle.usb_device_ledger.specs.Entries.{ClaimedInterface}
@@ -21,6 +22,7 @@ use Rattle.usb_device_host.specs.EndpointOpens.{OpensEndpoint, host_asked, host_
 use Rattle.usb_io.specs.Along.{KeepsAlong}
 use Rattle.usb_io.specs.Readers.{ReaderState}
 use Rattle.usb_io.specs.Writers.{WriterState}
+use Rattle.example_messages.specs.Restarts.{ClearsHalt, OneRefused}
 use Rattle.example_messages.specs.Endpoints.{BothStand, BothClosed, IsSame, OthersStand, IsSmall}
 
 -- the maximum packet size of an endpoint that may be opened is that of its descriptor, which has 11 bits
@@ -117,3 +119,9 @@ both-closed x y z source target one two = record {
       (closed-own (key_at x.endpoints) (key_at y.endpoints) source.key source.key one refl);
   output = closed-own (key_at y.endpoints) (key_at z.endpoints) target.key target.key two refl;
 }
+
+-- the halt of the other endpoint is not cleared
+pub target-refused : (new : HostState) (source target : EndpointState) (r : Result (Unit {0}) ErrorState) → ClearsHalt new target r →
+    IfErr r (OneRefused source target)
+target-refused new source target (Ok u) clears = tt
+target-refused new source target (Err error) clears = record { host = new; refused = inr clears }

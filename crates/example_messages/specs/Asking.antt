@@ -1,7 +1,8 @@
--- What is sent, what is answered, and why nothing is. A journal tells what happened at the kernel. What a reader consumed is a
--- prefix of what came to its endpoint, with an end exactly where a short packet came, and what a writer was told to write is
--- what its transfers carry (crates/usb_io/src/laws.rt).
-use Rattle.std.specs.Prelude.{ℕ, ◌≡◌, ◌<◌, ◌⊎◌, true, List, [], ◌∷◌, ◌++◌, length, map, Err}
+-- What is sent, what is answered, and why nothing is. A journal tells what happened at the kernel.
+-- What a reader consumed is a prefix of what came to its endpoint, with an end exactly where a short
+-- packet came, and what a writer was told to write is what its transfers carry (the laws of usb_io,
+-- crates/usb_io/src/laws.rt).
+use Rattle.std.specs.Prelude.{ℕ, ◌≡◌, ◌<◌, ◌⊎◌, true, List, [], ◌∷◌, ◌++◌, length, map, Ok, Err}
 use Rattle.usb_desc.specs.declared.error.Fail.{Fail}
 use Rattle.usb_desc.specs.declared.error.Fail.TheVariants.{Cause, Memory}
 use Rattle.usb_kernel.specs.Legal.{IsLawful}
@@ -33,18 +34,24 @@ pub record WritesBytes (old new : BusState) (w w' : WriterState) (bytes : List �
   pub are : marks_of (after_writes writes []) ≡ map Byte bytes
   pub tells : TellsOn old new w w' (after_writes writes [])
 
--- and then to end their message
+-- and then to end their message, which went well: each transfer that was pending then was taken,
+-- and none failed (`flush_end_came`)
 pub record WritesMessage (old new : BusState) (w w' : WriterState) (bytes : List ℕ) : Type 0 where
   pub writes : List (List ℕ)
   pub are : marks_of (after_writes writes []) ≡ map Byte bytes
   pub tells : TellsOn old new w w' (Finish ∷ after_writes writes [])
+  pub before : Writing HostState
+  pub behind : HostState
+  pub went_well : flush_end_came host_calls before.writer.timeout before
+      ≡ answered (Ok tt) (writing behind w')
 
 -- a reader that follows its stream does so still, and consumed these bytes of it and the end behind
 -- them. (The journal of a host is lawful: Kernel::journal)
 abbrev pub ReadsMessage : BusState → BusState → ReaderState → ReaderState → List ℕ → Type 0
 ReadsMessage old new r r' bytes =
     IsLawful new.past → (h : History) → Follows old.past r h →
-    (h' : History) × (h'.consumed ≡ (h.consumed ++ map Byte bytes) ++ End ∷ []) × Follows new.past r' h'
+    (h' : History) × (h'.consumed ≡ (h.consumed ++ map Byte bytes) ++ End ∷ [])
+    × Follows new.past r' h'
 
 -- the last call was a write or an end of a message, which failed by this
 pub record WriteFailed (new : Writing HostState) (fault : Fault) : Type 0 where

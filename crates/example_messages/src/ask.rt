@@ -1,14 +1,14 @@
 //! Requests and their answers.
 
-ghost use Rattle.std.specs.Prelude.{◌≡◌, ◌≤◌, ◌<◌, ◌++◌, IfOk, OnOk, IfErr, OnErr, IsTrue, ◌↔◌, vec_len, [], length, take, true};
-ghost use Rattle.usb_device_host.specs.HostBus.{bus_of};
-ghost use Rattle.example_messages.specs.Endpoints.{IsSettled, IsOpen, KeepsEndpoints, StandBeside};
+ghost use Rattle.std.specs.Prelude.{◌≡◌, ◌≤◌, ◌++◌, ◌↔◌, IfOk, OnOk, IfErr, OnErr, IsTrue, vec_len, length, take, true};
 ghost use Rattle.usb_device_endpoint.specs.BusState.{BusState};
+ghost use Rattle.usb_device_host.specs.HostBus.{bus_of};
 ghost use Rattle.usb_io.specs.Along.{WritesAlong, ReadsAlong};
 ghost use Rattle.usb_io.specs.Following.{FollowsRead};
 ghost use Rattle.usb_io.specs.Readers.{ReaderState, is_end, without_end};
 ghost use Rattle.usb_io.specs.Reads.{reading};
 ghost use Rattle.usb_io.specs.Writers.{writing};
+ghost use Rattle.example_messages.specs.Endpoints.{IsSettled, IsOpen, KeepsEndpoints, StandBeside};
 ghost use Rattle.example_messages.specs.Asking.{WritesBytes, WritesMessage, ReadsMessage, SendFails, ReceiveFails, Fails};
 
 use crate::fault::{Fault, read_failed, write_failed};
@@ -45,12 +45,19 @@ impl Messages {
             && self.writer.buffered().unwrap_or(0) == 0
     }
 
-    /// Sends a request as one message, and gives the message that is the answer.
+    /// Sends a request as one message, and gives the message that is the answer: the bytes of the
+    /// packets that come, up to the first that is shorter than the maximum packet size.
     ///
     /// # Errors
     ///
-    /// Want of memory, and each fault. The next request is refused then with `Fault::Unsettled`, or
-    /// comes after `restart`.
+    /// Want of memory, and the faults. No byte of an answer is handed over then. What is left of it
+    /// is not taken for that of a later request, which is refused with `Fault::Unsettled` until
+    /// `restart` has dropped it.
+    ///
+    /// # Not claimed
+    ///
+    /// That `Fault::Stuck` never comes; that nothing is left behind an answer, which would refuse the
+    /// next request; that a device answers the request that it was sent, and not another.
     pub fn ask(&mut self, host: &mut Host, request: &[u8]) -> Result<Vec<u8>, Fail<Fault>>
         requires stands { IsOpen (bus_of host.old) self.old }
         ensures sent { OnOk result (WritesMessage (bus_of host.old) (bus_of host.new)

@@ -1,10 +1,10 @@
 //! The endpoints of a device that answers messages.
 
-ghost use Rattle.std.specs.Prelude.{◌≡◌, ◌≢◌, [], IfOk, OnErr, length};
-ghost use Rattle.usb_device_endpoint.specs.EndpointState.{EndpointState};
+ghost use Rattle.std.specs.Prelude.{◌≡◌, [], IfOk, IfErr, OnOk, OnErr};
 ghost use Rattle.usb_device_endpoint.specs.Handles.{Stands, KeepsOthers};
-ghost use Rattle.usb_device_host.specs.HostBus.{bus_of, key_at};
+ghost use Rattle.usb_device_host.specs.HostBus.{bus_of};
 ghost use Rattle.usb_device.specs.HandleStates.{StandsInterface};
+ghost use Rattle.example_messages.specs.Restarts.{ClearsHalt, BothCleared, OneRefused};
 ghost use Rattle.example_messages.specs.Endpoints.{fresh_messages, IsFresh, IsSettled, IsOpen, BothStand, IsClosed, BothClosed, IsSame, KeepsEndpoints, OthersStand, StandBeside, IsSmall};
 
 use std::alloc::Global;
@@ -51,7 +51,13 @@ impl Model for Messages {
 }
 
 impl Messages {
-    /// Opens the device at an address of a bus.
+    /// Opens the device at an address of a bus, claims its interface, and opens both endpoints.
+    ///
+    /// # Errors
+    ///
+    /// Those of opening the device, its interface and its endpoints, and want of memory. What was
+    /// opened before is closed then. (No clause says so, nor which error comes. The compiler refuses
+    /// a path that leaves a handle.)
     pub fn open(
         alloc: Global,
         host: &mut Host,
@@ -115,11 +121,20 @@ impl Messages {
     /// # Errors
     ///
     /// A halt is not cleared, as that of a device that is gone. Both endpoints are closed then.
+    ///
+    /// # Not claimed
+    ///
+    /// That each transfer that was cancelled comes back within `TIMEOUT`. While one is pending
+    /// requests are refused with `Fault::Unsettled`.
     pub fn restart(self, host: &mut Host) -> Result<Messages, Error>
         requires stands { IsOpen (bus_of host.old) self }
         ensures fresh { IfOk result IsFresh }
         ensures same { IfOk result (KeepsEndpoints self) }
         ensures stands { IfOk result (IsOpen (bus_of host.new)) }
+        ensures cleared { OnOk result
+            (BothCleared host.new self.reader.endpoint self.writer.endpoint) }
+        ensures refused { IfErr result
+            (OneRefused self.reader.endpoint self.writer.endpoint) }
         ensures closed { OnErr result (IsClosed host.new self) }
         ensures others { StandBeside (bus_of host.old) (bus_of host.new) self }
     {
@@ -166,6 +181,8 @@ fn restart_both(
     ensures stand { BothStand (bus_of host.new) input.new output.new }
     ensures input { IsSame input.old input.new }
     ensures output { IsSame output.old output.new }
+    ensures cleared { OnOk result (BothCleared host.new input.old output.old) }
+    ensures refused { IfErr result (OneRefused input.old output.old) }
     ensures others { OthersStand (bus_of host.old) (bus_of host.new) input.old output.old }
 {
     restart_endpoint(host, input)?;
@@ -180,6 +197,7 @@ fn restart_endpoint<D: EndpointDirection>(
     requires stands { Stands (bus_of host.old) endpoint.old }
     ensures stands { Stands (bus_of host.new) endpoint.new }
     ensures same { IsSame endpoint.old endpoint.new }
+    ensures clears { ClearsHalt host.new endpoint.old result }
     ensures others { KeepsOthers (bus_of host.old) (bus_of host.new) endpoint.old.key }
 {
     endpoint.cancel_all(host);

@@ -2,7 +2,7 @@
 use Rattle.std.proofs.Common.{ap, refl}
 use Rattle.usb_device_endpoint.specs.EndpointState.{EndpointState}
 use Rattle.usb_device_host.specs.HostBus.{bus_of}
-use Rattle.example_messages.proofs.EndpointLemmas.{input-kept, output-kept, others-once, others-other, others-then}
+use Rattle.example_messages.proofs.EndpointLemmas.{input-kept, output-kept, others-once, others-other, others-then, target-refused}
 use Rattle.example_messages.proofs.messages.restart_both.Goals as goal
 
 pub returns-in_err-restart_endpoint-clause-stand :
@@ -33,3 +33,7 @@ returns-clause-others c =
     (others-once (bus_of c.args.host.now) (bus_of c.restart_endpoint.new.host) c.args.input.now c.args.output.now c.restart_endpoint.ensures.others)
     (ap (λ (e : EndpointState). e.key) c.restart_endpoint.ensures.same) refl
     (others-other (bus_of c.restart_endpoint.new.host) (bus_of c.restart_endpoint-2.new.host) c.restart_endpoint.new.endpoint c.args.output.now c.restart_endpoint-2.ensures.others)
+
+pub returns-clause-refused : goal.returns-clause-refused
+returns-clause-refused c =
+    target-refused c.restart_endpoint-2.new.host c.args.input.now c.args.output.now c.restart_endpoint-2.result c.restart_endpoint-2.ensures.clears

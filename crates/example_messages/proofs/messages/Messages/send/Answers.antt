@@ -15,9 +15,9 @@ returns-clause-sent c =
     elim c.match-flush_end.branch [
       | in-Ok w ↦
           rw w.result-is
-          (writes-end (bus_of c.args.host.now) (bus_of c.write_all.new.host) _ c.args.self.now.writer c.self.inside.writer _ c.args.request.now
+          (writes-end (bus_of c.args.host.now) (bus_of c.write_all.new.host) _ c.args.self.now.writer c.self.inside.writer _ c.args.request.now c.write_all.new.host c.flush_end.new.bus
           (subst (λ (m : MessagesState). WritesBytes (bus_of c.args.host.now) (bus_of c.write_all.new.host) c.args.self.now.writer m.writer c.args.request.now) (sym c.self.view_is) c.in_ok-write_all.ensures.written)
-          w.in-Ok.ensures.tells)
+          w.in-Ok.ensures.tells w.in-Ok.ensures.ok)
       | in-Err w ↦ rw w.result-is tt
     ]
 
