@@ -1,0 +1,2 @@
+pub mod EndpointLemmas
+pub mod AskLemmas

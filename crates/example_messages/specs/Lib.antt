@@ -1,0 +1,4 @@
+pub mod Endpoints
+pub mod Restarts
+pub mod Faults
+pub mod Asking
