@@ -3,7 +3,9 @@
 #![tactic(auto)]
 
 mod bench;
+mod journal;
 #[cfg(test)]
 mod tests;
 
 pub use bench::SimBench;
+pub use journal::sent;
