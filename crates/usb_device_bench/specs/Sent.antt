@@ -1,11 +1,11 @@
--- What a driver handed in at an OUT endpoint.
+-- What a driver sent to an OUT endpoint.
 use Rattle.std.specs.Prelude.{ℕ, List, Option, Some, None, slice_get, ◌==◌, if◌then◌else◌}
 use Rattle.std.specs.List.{filter_map}
 use Rattle.usb_kernel.specs.declared.event.Event.{Event}
 use Rattle.usb_kernel.specs.declared.event.Event.TheVariants.{Submit}
 use Rattle.usb_kernel.specs.declared.event.Body.TheVariants.{Sent}
 
--- the bytes that an event hands in at the endpoint of this address
+-- the bytes of the transfer that an event submits to the endpoint of this address
 abbrev pub sent_by : ℕ → Event → Option (List ℕ)
 sent_by address (Submit ticket device endpoint maximum (Sent bytes) room deadline) =
     if endpoint == address then Some bytes else None

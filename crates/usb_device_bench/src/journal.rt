@@ -1,4 +1,4 @@
-//! What a driver handed in, for its tests to look at.
+//! What a driver sent, for its tests to look at.
 
 ghost use Rattle.std.specs.Prelude.{◌≡◌, option_map};
 ghost use Rattle.usb_device_bench.specs.Sent.{sent_by, last_sent};
@@ -6,9 +6,9 @@ ghost use Rattle.usb_device_bench.specs.Sent.{sent_by, last_sent};
 use usb_device_host::Host;
 use usb_kernel::{Body, Event};
 
-/// The bytes that were handed in last at the OUT endpoint of this address, if any were. A control
-/// transfer that sends bytes has the address 0x00, and its bytes are those behind the setup packet.
-/// Whether the device took them is another matter, and what the kernel refused is left out.
+/// The bytes of the last transfer that was submitted to the OUT endpoint of this address, if any was
+/// that the kernel did not refuse. With the address 0x00 it is that of the last control transfer that
+/// sends bytes, without its setup packet. The device need not have taken them.
 pub fn sent(host: &Host, endpoint: u8) -> Option<&[u8]>
     ensures bytes { option_map (λ b. b.now) result ≡ last_sent endpoint host.now.kernel.past }
 {
@@ -20,7 +20,7 @@ pub fn sent(host: &Host, endpoint: u8) -> Option<&[u8]>
     found
 }
 
-/// The bytes that an event hands in at the OUT endpoint of this address.
+/// The bytes of the transfer that an event submits to the OUT endpoint of this address.
 fn sent_by(event: &Event, endpoint: u8) -> Option<&[u8]>
     ensures bytes { option_map (λ b. b.now) result ≡ sent_by endpoint event.now }
 {

@@ -1,5 +1,5 @@
 //! A bench for the tests of drivers: a host with one simulated device, which makes the steps that a
-//! test lists.
+//! test lists; and what a driver sent.
 #![tactic(auto)]
 
 mod bench;
