@@ -57,11 +57,7 @@ pub fn read_reports(
 }
 
 /// Opens the keyboard's endpoint. Nothing else is left open.
-fn open(
-    host: &mut Host,
-    bus: u8,
-    address: u8,
-) -> Result<Endpoint<Interrupt, In>, Fail<Error>>
+fn open(host: &mut Host, bus: u8, address: u8) -> Result<Endpoint<Interrupt, In>, Fail<Error>>
     ensures past { host.new.kernel.past ≡ host.old.kernel.past }
     ensures tried { Tried (result_map (λ _. tt) result) (keyboard_answer host.old bus address) }
     ensures stands { IfOk result (Stands (bus_of host.new)) }

@@ -7,7 +7,6 @@ ghost use Rattle.usb_device.specs.HandleStates.{StandsInterface};
 ghost use Rattle.example_messages.specs.Restarts.{ClearsHalt, BothCleared, OneRefused};
 ghost use Rattle.example_messages.specs.Endpoints.{fresh_messages, IsFresh, IsSettled, IsOpen, BothStand, IsClosed, BothClosed, IsSame, KeepsEndpoints, OthersStand, StandBeside, IsSmall};
 
-use std::alloc::Global;
 use std::marker::Model;
 use usb_device::{
     Bulk, Device, Endpoint, EndpointDirection, Error, Fail, Host, In, Interface, Out,
@@ -33,7 +32,7 @@ const TIMEOUT: u64 = 10_000_000_000;
 /// endpoint. The two own the claim of its interface.
 ///
 /// ```
-/// let mut messages = Messages::open(alloc, host, 1, 6)?;
+/// let mut messages = Messages::open(host, 1, 6)?;
 /// let answer = messages.ask(host, &[1, 2, 3]);
 /// messages.close(host);
 /// ```
@@ -58,19 +57,12 @@ impl Messages {
     /// Those of opening the device, its interface and its endpoints, and want of memory. What was
     /// opened before is closed then. (No clause says so, nor which error comes. The compiler refuses
     /// a path that leaves a handle.)
-    pub fn open(
-        alloc: Global,
-        host: &mut Host,
-        bus: u8,
-        address: u8,
-    ) -> Result<Messages, Fail<Error>>
+    pub fn open(host: &mut Host, bus: u8, address: u8) -> Result<Messages, Fail<Error>>
         ensures fresh { IfOk result IsFresh }
         ensures settled { IfOk result IsSettled }
         ensures stands { IfOk result (IsOpen (bus_of host.new)) }
     {
-        let interface = Device::open_at(alloc, host, bus, address)?.into_interface(
-            host, INTERFACE,
-        )?;
+        let interface = Device::open_at(host, bus, address)?.into_interface(host, INTERFACE)?;
         match interface.endpoint::<Bulk, In>(host, INPUT) {
             Ok(input) => Messages::with_input(host, interface, input),
             Err(error) => {

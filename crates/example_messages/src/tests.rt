@@ -5,7 +5,6 @@ ghost use Rattle.usb_device_host.specs.HostBus.{bus_of};
 ghost use Rattle.example_messages.specs.Endpoints.{IsOpen};
 
 use crate::{Fault, LONGEST_ANSWER, Messages};
-use std::alloc::Global;
 use std::test;
 use usb_device::{Body, Error, ErrorKind, Event, Fail, Host, NoMemory};
 use usb_device_bench::SimBench;
@@ -62,8 +61,8 @@ fn is_answer(found: &Result<Vec<u8>, Fail<Fault>>, wanted: &Result<&'static [u8]
 
 /// Whether the device at address 6 of bus 1 answers requests so, one after another. After a fault
 /// the driver starts anew, which is an error where the device is gone.
-fn answers(alloc: Global, host: &mut Host, turns: &[Turn]) -> Result<bool, Fail<Error>> {
-    let mut messages = Messages::open(alloc, host, 1, 6)?;
+fn answers(host: &mut Host, turns: &[Turn]) -> Result<bool, Fail<Error>> {
+    let mut messages = Messages::open(host, 1, 6)?;
     let mut all = true;
     for turn in turns {
         let answer = messages.ask(host, turn.request);
@@ -80,9 +79,9 @@ fn answers(alloc: Global, host: &mut Host, turns: &[Turn]) -> Result<bool, Fail<
 }
 
 /// Whether the device of a bench answers requests so, and nothing is left open.
-fn bench_answers(alloc: Global, bench: SimBench, turns: &[Turn]) -> Result<bool, Fail<Error>> {
+fn bench_answers(bench: SimBench, turns: &[Turn]) -> Result<bool, Fail<Error>> {
     let mut host = bench.host()?;
-    let all = answers(alloc, &mut host, turns)?;
+    let all = answers(&mut host, turns)?;
     Ok(all && host.endpoint_count() == 0)
 }
 
@@ -105,14 +104,9 @@ fn is_sent(journal: &[Event], wanted: &[&[u8]]) -> bool {
 }
 
 /// Whether a request is sent so, whatever its answer is.
-fn sends(
-    alloc: Global,
-    bench: SimBench,
-    request: &[u8],
-    wanted: &[&[u8]],
-) -> Result<bool, Fail<Error>> {
+fn sends(bench: SimBench, request: &[u8], wanted: &[&[u8]]) -> Result<bool, Fail<Error>> {
     let mut host = bench.host()?;
-    let mut messages = Messages::open(alloc, &mut host, 1, 6)?;
+    let mut messages = Messages::open(&mut host, 1, 6)?;
     let _ = messages.ask(&mut host, request);
     messages.close(&mut host);
     Ok(is_sent(host.kernel().journal(), wanted))
@@ -123,7 +117,7 @@ fn a_request_is_answered(rt: HostRuntime) -> Result<(), test::Fail> {
     let bench = SimBench::new(rt.alloc(), &DEVICE)?
         .accept(0x02)?
         .packet(0x81, &[4, 5])?;
-    assert!(rt; bench_answers(rt.alloc(), bench, &[answered(&[4, 5])])?);
+    assert!(rt; bench_answers(bench, &[answered(&[4, 5])])?);
     Ok(())
 }
 
@@ -138,7 +132,7 @@ fn an_answer_of_several_packets_is_one_message(rt: HostRuntime) -> Result<(), te
         .packet(0x81, &FULL)?
         .packet(0x81, &[])?;
     let turns = [answered(&TWO_FULL_AND_TWO), answered(&FULL)];
-    assert!(rt; bench_answers(rt.alloc(), bench, &turns)?);
+    assert!(rt; bench_answers(bench, &turns)?);
     Ok(())
 }
 
@@ -149,7 +143,7 @@ fn an_empty_answer_is_one(rt: HostRuntime) -> Result<(), test::Fail> {
         .packet(0x81, &[])?
         .accept(0x02)?
         .packet(0x81, &[4])?;
-    assert!(rt; bench_answers(rt.alloc(), bench, &[answered(&[]), answered(&[4])])?);
+    assert!(rt; bench_answers(bench, &[answered(&[]), answered(&[4])])?);
     Ok(())
 }
 
@@ -167,7 +161,7 @@ fn a_stall_is_cleared_and_the_next_request_is_answered(rt: HostRuntime) -> Resul
         failed(Fault::Stalled),
         answered(&[4, 5]),
     ];
-    assert!(rt; bench_answers(rt.alloc(), bench, &turns)?);
+    assert!(rt; bench_answers(bench, &turns)?);
     Ok(())
 }
 
@@ -180,7 +174,7 @@ fn a_late_answer_is_none_of_the_next_request(rt: HostRuntime) -> Result<(), test
         .accept(0x02)?
         .packet(0x81, &[4, 5])?;
     let turns = [failed(Fault::TimedOut), answered(&[4, 5])];
-    assert!(rt; bench_answers(rt.alloc(), bench, &turns)?);
+    assert!(rt; bench_answers(bench, &turns)?);
     Ok(())
 }
 
@@ -188,7 +182,7 @@ fn a_late_answer_is_none_of_the_next_request(rt: HostRuntime) -> Result<(), test
 fn no_request_follows_a_fault_before_a_restart(rt: HostRuntime) -> Result<(), test::Fail> {
     let bench = SimBench::new(rt.alloc(), &DEVICE)?.accept(0x02)?;
     let mut host = bench.host()?;
-    let mut messages = Messages::open(rt.alloc(), &mut host, 1, 6)?;
+    let mut messages = Messages::open(&mut host, 1, 6)?;
     let first = messages.ask(&mut host, &[1]);
     let second = messages.ask(&mut host, &[2]);
     messages.close(&mut host);
@@ -218,7 +212,7 @@ fn an_unplugged_device_answers_no_more(rt: HostRuntime) -> Result<(), test::Fail
         .packet(0x81, &FULL)?
         .unplug()?;
     let mut host = bench.host()?;
-    let mut messages = Messages::open(rt.alloc(), &mut host, 1, 6)?;
+    let mut messages = Messages::open(&mut host, 1, 6)?;
     let answer = messages.ask(&mut host, &[1]);
     let is_refused = is_refused(&mut host, messages);
     assert!(rt; is_answer(&answer, &Err(Fault::Unplugged)));
@@ -233,31 +227,31 @@ fn an_answer_without_end_is_too_long(rt: HostRuntime) -> Result<(), test::Fail> 
     for _ in 0..LONGEST_ANSWER / 64 + 8 {
         bench = bench.packet(0x81, &FULL)?;
     }
-    assert!(rt; bench_answers(rt.alloc(), bench, &[failed(Fault::TooLong)])?);
+    assert!(rt; bench_answers(bench, &[failed(Fault::TooLong)])?);
     Ok(())
 }
 
 #[test]
 fn a_request_is_sent_as_one_message(rt: HostRuntime) -> Result<(), test::Fail> {
     let bench = SimBench::new(rt.alloc(), &DEVICE)?.accept(0x02)?;
-    assert!(rt; sends(rt.alloc(), bench, &[1, 2, 3], &[&[1, 2, 3]])?);
+    assert!(rt; sends(bench, &[1, 2, 3], &[&[1, 2, 3]])?);
     let bench = SimBench::new(rt.alloc(), &DEVICE)?.accept(0x02)?;
-    assert!(rt; sends(rt.alloc(), bench, &[], &[&[]])?);
+    assert!(rt; sends(bench, &[], &[&[]])?);
     let bench = SimBench::new(rt.alloc(), &DEVICE)?
         .accept(0x02)?
         .accept(0x02)?;
-    assert!(rt; sends(rt.alloc(), bench, &FULL, &[&FULL, &[]])?);
+    assert!(rt; sends(bench, &FULL, &[&FULL, &[]])?);
     let mut bench = SimBench::new(rt.alloc(), &DEVICE)?;
     for _ in 0..10 {
         bench = bench.accept(0x02)?;
     }
-    assert!(rt; sends(rt.alloc(), bench, &LONG, &[&LONG[..512], &LONG[512..]])?);
+    assert!(rt; sends(bench, &LONG, &[&LONG[..512], &LONG[512..]])?);
     Ok(())
 }
 
 #[test]
 fn no_device_is_an_error(rt: HostRuntime) -> Result<(), test::Fail> {
     let bench = SimBench::new(rt.alloc(), &DEVICE)?.at(1, 7);
-    assert!(rt; matches!(bench_answers(rt.alloc(), bench, &[]), Err(Fail::Cause(_))));
+    assert!(rt; matches!(bench_answers(bench, &[]), Err(Fail::Cause(_))));
     Ok(())
 }

@@ -27,7 +27,7 @@ use Rattle.usb_device_tables.proofs.ValueLemmas.{value-within}
 use Rattle.usb_device_host.specs.Opens.{open_key}
 use Rattle.usb_device_host.specs.InterfaceClaims.{claim_tried}
 use Rattle.usb_device_host.specs.EndpointOpens.{OpensEndpoint}
-use Rattle.usb_device.specs.HandleCalls.{ClaimsInterface}
+use Rattle.usb_device.specs.HandleCalls.{ClaimsInterface, ClaimsAndCloses}
 use Rattle.usb_device.proofs.FreshKeys.{stands-within, endpoint-within}
 use Rattle.usb_device.proofs.HeldDevices.{opens-one}
 use Rattle.usb_device.proofs.StandLemmas.{claimed-next}
@@ -129,6 +129,9 @@ interface_apart h g key number reattach new i claims stands = λ same.
     let within = stands-within h i stands in
     let fresh = (claimed-next (length h.interfaces) new.key (claim_tried h claims.device number reattach) claims.tried).0 in
     absurd (omega (arith, same, within, fresh))
+
+pub into_interface_apart : (h g : HostState) (key number : ℕ) (reattach : Bool) (new i : InterfaceState) → ClaimsAndCloses h g key number reattach (Ok new) → StandsInterface h i → i.key ≢ new.key
+into_interface_apart h g key number reattach new i into stands = interface_apart h into.between key number reattach new i into.claims stands
 
 pub endpoint_apart : (h g : HostState) (key address : ℕ) (kind : TransferType) (direction : Direction) (new e : EndpointState) → OpensEndpoint h g key address kind direction (Ok new) → Stands (bus_of h) e → e.key ≢ new.key
 endpoint_apart h g key address kind direction new e opens stands = λ same.

@@ -207,11 +207,11 @@ impl SimBench {
         self.step(step)?.reap()
     }
 
-    /// A packet comes to an IN endpoint, or with the endpoint 0x80 the bytes of a control transfer.
-    /// They go to the endpoint's pending transfer that was submitted first, and are lost where none
-    /// is pending. A transfer that is full then, or a packet of less than the maximum packet size,
-    /// finishes it. A reap comes behind it, so that the wait for the transfer ends before the next
-    /// packet comes.
+    /// A packet comes to an IN endpoint, or with the endpoint 0x80 the bytes that answer a control
+    /// transfer. They go to the endpoint's pending transfer that was submitted first, and are lost
+    /// where none is pending. A transfer that is full then, or a packet of less than the maximum
+    /// packet size, finishes it. A reap comes behind it, so that the wait for the transfer ends
+    /// before the next packet comes.
     pub fn packet(self, endpoint: u8, bytes: &[u8]) -> Result<SimBench, NoMemory>
         ensures steps { IfOk result (λ b.
             b ≡ with_reaped_step self (KernelStep.Packet 0 endpoint bytes.now)) }
@@ -224,9 +224,9 @@ impl SimBench {
         })
     }
 
-    /// The device takes a packet of an OUT endpoint. A transfer of more bytes than its maximum packet
-    /// size takes several. A reap comes behind it, so that the wait for the transfer ends before the
-    /// next packet comes.
+    /// The device takes a packet of an OUT endpoint, or with the endpoint 0x00 all that a control
+    /// transfer sends. Another transfer of more bytes than its maximum packet size takes several. A
+    /// reap comes behind it, so that the wait for the transfer ends before the next packet comes.
     pub fn accept(self, endpoint: u8) -> Result<SimBench, NoMemory>
         ensures steps { IfOk result (λ b.
             b ≡ with_reaped_step self (KernelStep.Ack 0 endpoint)) }
@@ -267,7 +267,8 @@ impl SimBench {
     }
 
     /// The endpoint stalls: that transfer fails with 32 (EPIPE), which the driver sees as
-    /// `TransferError::Stall`. A reap comes behind it.
+    /// `TransferError::Stall`. A reap comes behind it. With the endpoint 0x00 the device refuses a
+    /// control transfer that sends bytes, and with 0x80 one that asks for them.
     pub fn stall(self, endpoint: u8) -> Result<SimBench, NoMemory>
         ensures steps { IfOk result (λ b.
             b ≡ with_reaped_step self (KernelStep.Fail 0 endpoint 32)) }

@@ -2,14 +2,15 @@
 //! of the simulation.
 
 ghost use Rattle.std.specs.Prelude.{◌<◌, ◌^◌, length};
+ghost use Rattle.usb_device.specs.HandleStates.{StandsDevice};
 
-use crate::SimBench;
+use crate::{SimBench, sent};
 use std::alloc::Global;
 use std::process::Abort;
 use std::test;
 use usb_device::{
-    Buffer, Bulk, Device, Error, ErrorKind, Fail, Host, KernelCall, KernelStep, Out, Speed,
-    TransferError,
+    Buffer, Bulk, ControlIn, ControlOut, ControlType, Device, Error, ErrorKind, Fail, Host,
+    KernelCall, KernelStep, Out, Recipient, Speed, TransferError,
 };
 
 /// The descriptors of a device of one configuration of value 1 with interface 0, which has the bulk
@@ -51,7 +52,64 @@ fn takes_what_is_sent(alloc: Global, host: &mut Host) -> Result<bool, Fail<Error
     host.rest();
     let refused = send(alloc, host, &[5]);
     let is_busy = matches!(refused, Err(Fail::Cause(error)) if error.kind() == ErrorKind::Busy);
-    Ok(is_taken && is_stalled && is_faulty && is_busy)
+    let is_last = matches!(sent(host, 0x02), Some([4])) && sent(host, 0x00).is_none();
+    Ok(is_taken && is_stalled && is_faulty && is_busy && is_last)
+}
+
+/// A request of the vendor that sends a byte.
+fn request(byte: &[u8; 1]) -> ControlOut<'_>
+    ensures short { length result.bytes.now < 2 ^ 16 }
+{
+    ControlOut {
+        control_type: ControlType::Vendor,
+        recipient: Recipient::Device,
+        request: 1,
+        value: 0,
+        index: 0,
+        bytes: byte,
+    }
+}
+
+/// A request of the vendor that asks for two bytes.
+const QUESTION: ControlIn = ControlIn {
+    control_type: ControlType::Vendor,
+    recipient: Recipient::Device,
+    request: 2,
+    value: 0,
+    index: 0,
+    length: 2,
+};
+
+/// Whether a device takes a byte, and refuses the next. Both were sent.
+fn takes_one_request(host: &mut Host, device: &Device) -> bool
+    requires stands { StandsDevice host.old device.now }
+    ensures stands { StandsDevice host.new device.now }
+{
+    let is_taken = device.control_out(host, request(&[7]), 1000).is_ok();
+    let is_first = matches!(sent(host, 0x00), Some([7]));
+    let refused = device.control_out(host, request(&[8]), 1000);
+    let is_refused = matches!(refused, Err(Fail::Cause(TransferError::Stall)));
+    is_taken && is_first && is_refused && matches!(sent(host, 0x00), Some([8]))
+}
+
+/// Whether a device answers a question with two bytes, and refuses the next.
+fn answers_one_question(host: &mut Host, device: &Device) -> bool
+    requires stands { StandsDevice host.old device.now }
+    ensures stands { StandsDevice host.new device.now }
+{
+    let answer = device.control_in(host, QUESTION, 1000);
+    let is_answered = matches!(&answer, Ok(bytes) if bytes.as_slice() == [1, 2].as_slice());
+    let refused = device.control_in(host, QUESTION, 1000);
+    is_answered && matches!(&refused, Err(Fail::Cause(TransferError::Stall)))
+}
+
+/// Whether the host of `a_control_transfer_has_an_address_for_each_direction` does both.
+fn makes_requests(host: &mut Host) -> Result<bool, Fail<Error>> {
+    let device = Device::open_at(host, 1, 6)?;
+    let is_taken = takes_one_request(host, &device);
+    let is_answered = answers_one_question(host, &device);
+    device.close(host);
+    Ok(is_taken && is_answered)
 }
 
 /// Whether the steps of a host set its clock, and leave one event.
@@ -64,6 +122,8 @@ fn leaves_one_event(host: &mut Host, clock: u64) -> bool {
 enum Case {
     /// Bytes are sent.
     Sends,
+    /// Requests are made.
+    Requests,
     /// The steps are made.
     Steps,
 }
@@ -74,6 +134,7 @@ fn expect(rt: &impl Abort, alloc: Global, bench: SimBench, case: &Case) -> Resul
     let mut host = bench.host()?;
     let is_so = match case {
         Case::Sends => matches!(takes_what_is_sent(alloc, &mut host), Ok(true)),
+        Case::Requests => matches!(makes_requests(alloc, &mut host), Ok(true)),
         Case::Steps => leaves_one_event(&mut host, 5),
     };
     assert!(rt; is_so);
@@ -107,4 +168,14 @@ fn of_steps_with_nothing_to_act_on_the_unplug_alone_is_an_event(
         .reap()?
         .unplug()?;
     expect(&rt, rt.alloc(), bench, &Case::Steps)
+}
+
+#[test]
+fn a_control_transfer_has_an_address_for_each_direction(rt: HostRuntime) -> Result<(), test::Fail> {
+    let bench = SimBench::new(rt.alloc(), &PRINTER)?
+        .accept(0x00)?
+        .stall(0x00)?
+        .packet(0x80, &[1, 2])?
+        .stall(0x80)?;
+    expect(&rt, rt.alloc(), bench, &Case::Requests)
 }
