@@ -134,7 +134,7 @@ fn expect(rt: &impl Abort, alloc: Global, bench: SimBench, case: &Case) -> Resul
     let mut host = bench.host()?;
     let is_so = match case {
         Case::Sends => matches!(takes_what_is_sent(alloc, &mut host), Ok(true)),
-        Case::Requests => matches!(makes_requests(alloc, &mut host), Ok(true)),
+        Case::Requests => matches!(makes_requests(&mut host), Ok(true)),
         Case::Steps => leaves_one_event(&mut host, 5),
     };
     assert!(rt; is_so);
