@@ -1,7 +1,7 @@
 -- What is sent, what is answered, and why nothing is. A journal tells what happened at the kernel.
--- What a reader consumed is a prefix of what came to its endpoint, with an end exactly where a short
--- packet came, and what a writer was told to write is what its transfers carry (the laws of usb_io,
--- crates/usb_io/src/laws.rt).
+-- What a reader consumed is a prefix of what came to its endpoint, with an end exactly where a
+-- short packet came, and what a writer was told to write is what its transfers carry (the laws of
+-- usb_io, crates/usb_io/src/laws.rt).
 use Rattle.std.specs.Prelude.{ℕ, ◌≡◌, ◌<◌, ◌⊎◌, true, List, [], ◌∷◌, ◌++◌, length, map, Ok, Err}
 use Rattle.usb_desc.specs.declared.error.Fail.{Fail}
 use Rattle.usb_desc.specs.declared.error.Fail.TheVariants.{Cause, Memory}

@@ -56,8 +56,8 @@ impl Messages {
     /// # Errors
     ///
     /// Those of opening the device, its interface and its endpoints, and want of memory. What was
-    /// opened before is closed then. (No clause says so, nor which error comes. The compiler refuses
-    /// a path that leaves a handle.)
+    /// opened before is closed then. (No clause says so, nor which error comes. The compiler
+    /// refuses a path that leaves a handle.)
     pub fn open(
         alloc: Global,
         host: &mut Host,
