@@ -1,7 +1,7 @@
 -- What is sent, what is answered, and why nothing is. A journal tells what happened at the kernel.
--- What a reader consumed is a prefix of what came to its endpoint, with an end exactly where a short
--- packet came, and what a writer was told to write is what its transfers carry (the laws of usb_io,
--- crates/usb_io/src/laws.rt).
+-- What a reader consumed is a prefix of what came to its endpoint, with an end exactly where a
+-- short packet came, and what a writer was told to write is what its transfers carry (the laws of
+-- usb_io, crates/usb_io/src/laws.rt).
 use Rattle.std.specs.Prelude.{ℕ, ◌≡◌, ◌<◌, ◌⊎◌, true, List, [], ◌∷◌, ◌++◌, length, map, Ok, Err}
 use Rattle.usb_desc.specs.declared.error.Fail.{Fail}
 use Rattle.usb_desc.specs.declared.error.Fail.TheVariants.{Cause, Memory}
@@ -25,7 +25,7 @@ use Rattle.usb_io.specs.declared.fault.WriteFault.{WriteFault}
 use Rattle.example_messages.specs.declared.fault.Fault.{Fault}
 use Rattle.example_messages.specs.declared.fault.Fault.TheVariants.{TooLong, Unsettled, Stuck}
 use Rattle.example_messages.specs.declared.ask.TheConstants.{LONGEST_ANSWER}
-use Rattle.example_messages.specs.Endpoints.{MessagesState}
+use Rattle.example_messages.specs.Endpoints.{MessagesState, IsSettled}
 use Rattle.example_messages.specs.Faults.{write_fault, read_fault}
 
 -- a writer was told to write these bytes, in writes that are listed from the latest on
@@ -90,11 +90,11 @@ ReceiveFails old r new (Cause Stuck) = Unit {0}
 ReceiveFails old r new (Cause TooLong) = CameTooLong old (bus_of new.bus) r new.reader
 ReceiveFails old r new (Cause fault) = ReadFailed new fault
 
--- why a request was not answered
+-- why a request was not answered. Where something of an earlier one was left, nothing was done
 abbrev pub Fails : HostState → HostState → MessagesState → MessagesState → Fail Fault → Type 0
 Fails old new m m' Memory = Unit {0}
 Fails old new m m' (Cause Stuck) = Unit {0}
-Fails old new m m' (Cause Unsettled) = (new ≡ old) × (m' ≡ m)
+Fails old new m m' (Cause Unsettled) = (IsSettled m → ⊥) × (new ≡ old) × (m' ≡ m)
 Fails old new m m' (Cause TooLong) = CameTooLong (bus_of old) (bus_of new) m.reader m'.reader
 Fails old new m m' (Cause fault) =
     WriteFailed (writing new m'.writer) fault ⊎ ReadFailed (reading new m'.reader) fault

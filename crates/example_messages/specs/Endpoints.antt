@@ -29,8 +29,8 @@ fresh_messages input output = record {
 abbrev pub IsFresh : MessagesState → Type 0
 IsFresh m = m ≡ fresh_messages m.reader.endpoint m.writer.endpoint
 
--- nothing of an earlier request is left: no transfer is pending, no byte is unread or unsent, and no
--- end and no error stands
+-- nothing of an earlier request is left: no transfer is pending, no byte is unread or unsent, and
+-- no end and no error stands
 pub record IsSettled (m : MessagesState) : Type 0 where
   pub input : m.reader.endpoint.pending ≡ []
   pub output : m.writer.endpoint.pending ≡ []

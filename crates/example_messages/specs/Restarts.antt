@@ -8,7 +8,8 @@ use Rattle.usb_device_host.specs.HostState.{HostState}
 use Rattle.usb_device_host.specs.HostCalls.{host_calls}
 
 -- the last call of a host asked the kernel to clear the halt of an endpoint, which answered this
-pub record ClearsHalt (new : HostState) (e : EndpointState) (result : Result (Unit {0}) ErrorState) : Type 0 where
+pub record ClearsHalt (new : HostState) (e : EndpointState)
+    (result : Result (Unit {0}) ErrorState) : Type 0 where
   pub before : HostState
   pub host : new ≡ host_calls.halt_cleared before e.device e.address
   pub answer :

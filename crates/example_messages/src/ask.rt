@@ -56,8 +56,8 @@ impl Messages {
     ///
     /// # Not claimed
     ///
-    /// That `Fault::Stuck` never comes; that nothing is left behind an answer, which would refuse the
-    /// next request; that a device answers the request that it was sent, and not another.
+    /// That `Fault::Stuck` never comes; that nothing is left behind an answer, which would refuse
+    /// the next request; that a device answers the request that it was sent, and not another.
     pub fn ask(&mut self, host: &mut Host, request: &[u8]) -> Result<Vec<u8>, Fail<Fault>>
         requires stands { IsOpen (bus_of host.old) self.old }
         ensures sent { OnOk result (WritesMessage (bus_of host.old) (bus_of host.new)
