@@ -1,12 +1,12 @@
 -- The map of the ends.
-use Rattle.std.proofs.Common.{◌≡◌, ℕ, Option, Some, refl, ap, ◌∙◌, cond, inl, inr}
-use Rattle.std.specs.Prelude.{◌==◌, ◌&&◌, unwrap_or, if◌then◌else◌}
+use Rattle.std.proofs.Common.{◌≡◌, ℕ, false, Option, Some, None, refl, sym, ap, ◌∙◌, cond, inl, inr}
+use Rattle.std.specs.Prelude.{◌==◌, ◌&&◌, is_some, unwrap_or, if◌then◌else◌}
 use Rattle.std.specs.declared.cmp.Ordering.{Ordering}
 use Rattle.std.specs.declared.cmp.Ordering.TheVariants.{Less, Equal, Greater}
 use Rattle.std.specs.Ordering.{nat_cmp, ordering_then, is_eq}
 use Rattle.std.specs.BTreeMap.{is_at}
 use Rattle.std.specs.Cmp.{unsigned_tied}
-use Rattle.std.proofs.lemmas.Bool.{cases_Bool, and_parts, eqb-true}
+use Rattle.std.proofs.lemmas.Bool.{cases_Bool, and_parts, eqb-true, false≢true}
 use Rattle.usb_kernel.specs.declared.record.Ends.{Ends}
 use Rattle.usb_kernel.specs.Queues.{no_ends, by_endpoint}
 
@@ -17,6 +17,11 @@ both-equal Greater b = refl
 
 pub compared : (d e x y : ℕ) → is_at (by_endpoint (d, e)) (x, y) ≡ d == x && e == y
 compared d e x y = both-equal (nat_cmp d x) (nat_cmp e y) ∙ rw (unsigned_tied d x, unsigned_tied e y) refl
+
+-- an endpoint with no entry has no list
+pub ends-none : (o : Option Ends) → is_some o ≡ false → unwrap_or o no_ends ≡ no_ends
+ends-none None none = refl
+ends-none (Some ends) none = absurd (false≢true (sym none))
 
 module _ (old new : ℕ × ℕ → Option Ends) (d e : ℕ) (ends : Ends) (updated : (q : ℕ × ℕ) → new q ≡ cond (is_at (by_endpoint (d, e)) q) (Some ends) (old q)) where
   pub ends-set : (x y : ℕ) → unwrap_or (new (x, y)) no_ends ≡ (if d == x && e == y then ends else unwrap_or (old (x, y)) no_ends)

@@ -18,6 +18,7 @@ pub mod Info
 pub mod Rows
 pub mod Passing
 pub mod Unreaped
+pub mod Words
 pub mod Links
 pub mod Lends
 pub mod Chains

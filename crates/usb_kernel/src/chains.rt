@@ -1,10 +1,10 @@
 //! Tickets are taken out of a list and put at its end.
 
-ghost use Rattle.std.specs.Prelude.{◌≡◌, ℕ, ◌+◌, ◌<◌, ◌≤◌, length, is_none, false, Some, vec_capacity};
+ghost use Rattle.std.specs.Prelude.{◌≡◌, ℕ, ◌+◌, ◌<◌, ◌≤◌, ◌^◌, length, is_none, false, Some, vec_capacity};
 ghost use Rattle.usb_kernel.specs.Links.{with_before, with_after, changed, is_first, unlinked, ends_without, IsWithin, last_linked, ends_with, link_behind};
 
 use crate::looks::Steps;
-use crate::record::{Chain, Ends, Link};
+use crate::record::{Chain, Ends, Link, Neighbour};
 use crate::tickets::Tickets;
 use std::sync::ledger::Ledger;
 
@@ -12,7 +12,7 @@ use std::sync::ledger::Ledger;
 fn begins_with(ends: &Ends, ticket: usize) -> bool
     ensures first { result ≡ is_first ends.now ticket }
 {
-    match ends.first {
+    match ends.first.ticket() {
         Some(first) => first == ticket,
         None => false,
     }
@@ -23,8 +23,8 @@ impl Tickets {
     fn set_before<L: Ledger>(
         &mut self,
         chain: Chain,
-        ticket: Option<usize>,
-        before: Option<usize>,
+        ticket: Neighbour,
+        before: Neighbour,
         steps: &mut Steps<L>,
     )
         requires within { (t : ℕ) → ticket ≡ Some t → t < length self.old.records.items }
@@ -34,7 +34,7 @@ impl Tickets {
         ensures capacity { vec_capacity self.new.records ≡ vec_capacity self.old.records }
         ensures look { steps.new ≤ steps.old + 1 }
     {
-        let Some(ticket) = ticket else {
+        let Some(ticket) = ticket.ticket() else {
             return;
         };
         let record = self.at_mut(ticket, steps);
@@ -46,8 +46,8 @@ impl Tickets {
     fn set_after<L: Ledger>(
         &mut self,
         chain: Chain,
-        ticket: Option<usize>,
-        after: Option<usize>,
+        ticket: Neighbour,
+        after: Neighbour,
         steps: &mut Steps<L>,
     )
         requires within { (t : ℕ) → ticket ≡ Some t → t < length self.old.records.items }
@@ -57,7 +57,7 @@ impl Tickets {
         ensures capacity { vec_capacity self.new.records ≡ vec_capacity self.old.records }
         ensures look { steps.new ≤ steps.old + 1 }
     {
-        let Some(ticket) = ticket else {
+        let Some(ticket) = ticket.ticket() else {
             return;
         };
         let record = self.at_mut(ticket, steps);
@@ -90,7 +90,7 @@ impl Tickets {
         }
         self.set_after(chain, link.before, link.after, steps);
         self.set_before(chain, link.after, link.before, steps);
-        if link.after.is_none() {
+        if link.after.ticket().is_none() {
             ends.last = link.before;
         }
     }
@@ -104,6 +104,7 @@ impl Tickets {
         ticket: usize,
         steps: &mut Steps<L>,
     ) -> Link
+        requires fits { ticket + 1 < 2 ^ 64 }
         requires within { (t : ℕ) → is_none ends.old.first ≡ false → ends.old.last ≡ Some t
             → t < length self.old.records.items }
         ensures link { result ≡ link_behind ends.old }
@@ -116,14 +117,15 @@ impl Tickets {
     {
         let link = Link {
             before: ends.last,
-            after: None,
+            after: Neighbour::none(),
         };
-        ends.last = Some(ticket);
-        if ends.first.is_none() {
-            ends.first = Some(ticket);
+        let last = Neighbour::of(ticket);
+        ends.last = last;
+        if ends.first.ticket().is_none() {
+            ends.first = last;
             return link;
         }
-        self.set_after(chain, link.before, Some(ticket), steps);
+        self.set_after(chain, link.before, last, steps);
         link
     }
 }

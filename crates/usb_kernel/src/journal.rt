@@ -13,7 +13,7 @@ fn push_event(journal: &mut Vec<Event>, event: Event)
     ensures len { vec_len journal.new ≡ vec_len journal.old + 1 }
     ensures capacity { vec_capacity journal.old ≤ vec_capacity journal.new }
 {
-    let _ = journal.push(event);
+    journal.push_reserved(event);
 }
 
 /// The same. A lawful journal stays lawful, and the deadlines that are kept stay so unless one of

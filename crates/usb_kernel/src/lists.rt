@@ -60,10 +60,7 @@ impl TicketLists {
     {
         TicketLists {
             queues: Queues::new(alloc),
-            unreaped: Ends {
-                first: None,
-                last: None,
-            },
+            unreaped: Ends::none(),
             count: 0,
             finished: Vec::new(alloc),
         }
@@ -74,7 +71,7 @@ impl TicketLists {
         ensures oldest { (records : List Record) → AreListed records self.now
             → result ≡ position (is_open_row device endpoint) (rows_of records) }
     {
-        self.queues.ends(device, endpoint).first
+        self.queues.ends(device, endpoint).first.ticket()
     }
 
     /// The record of the first open ticket of its endpoint was written: where that finished it, the
@@ -92,15 +89,8 @@ impl TicketLists {
         if row.status.is_none() {
             return 0;
         }
-        let ends = self.queues.ends(row.device, row.endpoint);
-        self.queues.set(
-            row.device,
-            row.endpoint,
-            Ends {
-                first: written.queue.after,
-                ..ends
-            },
-        );
+        self.queues
+            .set_first(row.device, row.endpoint, written.queue.after);
         add_finished(&mut self.finished, ticket);
         1
     }
@@ -220,14 +210,10 @@ impl TicketLists {
             ≡ rows_of tickets.old.records.items ++ row ∷ [] }
         ensures capacity { vec_capacity tickets.new.records ≡ vec_capacity tickets.old.records }
     {
-        let alone = Link {
-            before: None,
-            after: None,
-        };
         tickets.push(Record {
             row,
-            queue: alone,
-            unreaped: alone,
+            queue: Link::none(),
+            unreaped: Link::none(),
         });
     }
 }

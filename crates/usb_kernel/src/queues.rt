@@ -3,7 +3,7 @@
 ghost use Rattle.std.specs.Prelude.{◌≡◌, ℕ, ◌==◌, ◌&&◌, true, OnOk, if◌then◌else◌};
 ghost use Rattle.usb_kernel.specs.Queues.{no_ends, ends_at, has_queue};
 
-use crate::record::Ends;
+use crate::record::{Ends, Neighbour};
 use std::alloc::{AllocError, Global};
 use std::collections::BTreeMap;
 
@@ -30,10 +30,7 @@ impl Queues {
     {
         match self.ends.get(&(device, endpoint)) {
             Some(ends) => *ends,
-            None => Ends {
-                first: None,
-                last: None,
-            },
+            None => Ends::none(),
         }
     }
 
@@ -42,8 +39,10 @@ impl Queues {
         ensures same { (d e : ℕ) → ends_at self.new d e ≡ ends_at self.old d e }
         ensures opened { OnOk result (has_queue self.new device endpoint ≡ true) }
     {
-        let ends = self.ends(device, endpoint);
-        match self.ends.insert((device, endpoint), ends) {
+        if self.ends.contains_key(&(device, endpoint)) {
+            return Ok(());
+        }
+        match self.ends.insert((device, endpoint), Ends::none()) {
             Ok(_) => Ok(()),
             Err(_) => Err(AllocError),
         }
@@ -56,6 +55,17 @@ impl Queues {
     {
         if let Some(entry) = self.ends.get_mut(&(device, endpoint)) {
             *entry = ends;
+        }
+    }
+
+    /// The list of an endpoint that has an entry begins with another ticket. It takes no memory.
+    pub(crate) fn set_first(&mut self, device: u8, endpoint: u8, first: Neighbour)
+        ensures ends { has_queue self.old device endpoint ≡ true → (d e : ℕ) → ends_at self.new d e
+            ≡ (if device == d && endpoint == e then
+            record (ends_at self.old device endpoint) { first = first } else ends_at self.old d e) }
+    {
+        if let Some(entry) = self.ends.get_mut(&(device, endpoint)) {
+            entry.first = first;
         }
     }
 }

@@ -15,10 +15,10 @@ use usb_xfer::Buffer;
 pub(crate) struct TicketRow {
     pub(crate) device: u8,
     pub(crate) endpoint: u8,
-    pub(crate) maximum: usize,
     pub(crate) refused: bool,
-    pub(crate) count: usize,
     pub(crate) status: Option<u16>,
+    pub(crate) maximum: usize,
+    pub(crate) count: usize,
     pub(crate) deadline: Option<u64>,
     pub(crate) buffer: Option<Buffer>,
 }

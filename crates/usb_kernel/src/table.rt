@@ -80,7 +80,7 @@ fn unplug_ticket<L: Ledger>(
     ensures looks { steps.new ≤ steps.old + 3 }
 {
     let reached = tickets.at_mut(at, steps);
-    let next = reached.unreaped.after;
+    let next = reached.unreaped.after.ticket();
     if reached.row.device != device || reached.row.status.is_some() {
         return Passed { next, freed: 0 };
     }
@@ -289,7 +289,7 @@ impl TicketTable {
         ensures looks { steps.new ≤ steps.old + 3 * count_by is_unreaped_row self.old.rows }
     {
         let mut freed = 0;
-        let mut next = self.lists.unreaped.first;
+        let mut next = self.lists.unreaped.first.ticket();
         'walk: while let Some(at) = next {
             let passed = unplug_ticket(&mut self.tickets, &mut self.lists, at, device, steps);
             freed += passed.freed;

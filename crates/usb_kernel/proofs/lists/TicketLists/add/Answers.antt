@@ -9,6 +9,7 @@ use Rattle.usb_kernel.proofs.lists.TicketLists.add.Goals as goal
 
 pub link_last-queue-requires : goal.link_last-queue-requires
 link_last-queue-requires g c = record {
+  fits = omega (arith, c.len-ticket.ensures.len, c.requires.room, c.args.tickets.now.records.ok);
   within = λ t some is.
       let lists = c.args.self.now in
       let ends = ends_at lists.queues c.args.row.device c.args.row.endpoint in
@@ -17,6 +18,7 @@ link_last-queue-requires g c = record {
 
 pub link_last-unreaped-requires : goal.link_last-unreaped-requires
 link_last-unreaped-requires g c = record {
+  fits = omega (arith, c.len-ticket.ensures.len, c.requires.room, c.args.tickets.now.records.ok);
   within = λ t some is.
       let there = (last-there _ _ (length c.args.tickets.now.records.items) c.args.self.now.unreaped c.requires.listed.unreaped some t is).0 in
       omega (arith, there, c.link_last-queue.ensures.len);

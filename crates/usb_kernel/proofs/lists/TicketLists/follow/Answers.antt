@@ -23,6 +23,6 @@ returns-clause-listed c =
     let some : is_some next.row.status ≡ true = c.if-is_none.ensures in
     λ records listed goes oldest.
     let first : (ends_at queues d e).first ≡ Some c.args.ticket = first-position (is_open_row d e) records _ (listed.queues d e).first ∙ oldest in
-    let set_to = c.set.ensures.ends (has-queue queues d e c.args.ticket first) in
+    let set_to = c.set_first.ensures.ends (has-queue queues d e c.args.ticket first) in
     let numbers = c.add_finished.ensures.numbers (rows_of records) next.row listed.finished (goes_on-finishes records c.args.ticket next goes some) in
-    listed-front records c.args.self.now c.args.ticket next listed goes some c.set.new.self c.add_finished.new.finished first (rw c.ends-ends.ensures.ends at set_to) numbers c.add_finished.ensures.capacity
+    listed-front records c.args.self.now c.args.ticket next listed goes some c.set_first.new.self c.add_finished.new.finished first set_to numbers c.add_finished.ensures.capacity

@@ -9,7 +9,7 @@ pub returns : goal.returns
 returns c = record {
   listed = record {
     queues = λ d e. rw (c.new.ensures.none d e) (chained-empty (is_open_row d e) Queue);
-    unreaped = chained-empty is_unreaped_row Unreaped;
+    unreaped = rw c.none.ensures.none (chained-empty is_unreaped_row Unreaped);
     count = refl;
     finished = c.new-2.ensures.items ∙ no_entries is_reapable_row (λ k r. k);
     room = omega arith;

@@ -7,5 +7,5 @@ use Rattle.usb_kernel.proofs.lists.TicketLists.oldest.Goals as goal
 pub returns : goal.returns
 returns c = record {
   oldest = λ records listed.
-      ap (λ (x : Ends). x.first) c.ends.ensures.ends ∙ first-position (is_open_row c.args.device c.args.endpoint) records _ (listed.queues c.args.device c.args.endpoint).first;
+      c.ticket.ensures.ticket ∙ ap (λ (x : Ends). x.first) c.ends.ensures.ends ∙ first-position (is_open_row c.args.device c.args.endpoint) records _ (listed.queues c.args.device c.args.endpoint).first;
 }

@@ -8,7 +8,7 @@ use Rattle.usb_kernel.proofs.WalkLemmas.{HasUnplugged, record_there, unplug-star
 use Rattle.usb_kernel.proofs.table.TicketTable.unplug_tickets.Goals as goal
 
 pub walk-init : goal.walk-init
-walk-init g c = unplug-start c.args.device c.self.inside.tickets.records.items c.self.inside.lists c.args.steps.now c.self.invariant (rw (seen_rows c.self.view_is) c.requires.roomy)
+walk-init g c = rw c.ticket-next.ensures.ticket (unplug-start c.args.device c.self.inside.tickets.records.items c.self.inside.lists c.args.steps.now c.self.invariant (rw (seen_rows c.self.view_is) c.requires.roomy))
 
 pub unplug_ticket-passed-requires : goal.unplug_ticket-passed-requires
 unplug_ticket-passed-requires g c =

@@ -10,4 +10,4 @@ pub returns-clause-records : goal.returns-clause-records
 returns-clause-records g c =
     let records = c.args.self.now.records.items in
     let here = changed-here (with_before c.args.chain c.args.before) records c.in-Some.ticket c.at_mut-record.result.now c.at_mut-record.ensures.record in
-    rw (c.in-Some.is, c.set_link.ensures.link, c.link-link.ensures.link) (sym here)
+    rw (sym c.in-Some.ensures.ticket, c.set_link.ensures.link, c.link-link.ensures.link) (sym here)
