@@ -15,6 +15,7 @@ use Rattle.usb_device_ledger.proofs.DeviceLemmas.{KeepsCounts, counts-there, ope
 use Rattle.usb_device.proofs.DeviceLemmas.{counts-stands}
 use Rattle.usb_device.proofs.HeldDevices.{held-goes}
 use Rattle.usb_device.proofs.StandLemmas.{StandsInterface-same}
+use Rattle.usb_session_streams.specs.Accounts.{KeepsAccounts, KeepsAccountsOf}
 use Rattle.usb_session_calls.specs.Names.{named, change_named, freed, set_name}
 use Rattle.usb_io.specs.Readers.{ReaderState}
 use Rattle.usb_io.specs.Writers.{WriterState}
@@ -26,6 +27,7 @@ use Rattle.usb_session_calls.proofs.EndpointNameLemmas.{Changed, ChangedAt, chan
 use Rattle.usb_session_calls.proofs.CountedNames.{counted-goes}
 use Rattle.usb_session_calls.proofs.CountedDevices.{devices-kept}
 use Rattle.usb_session_calls.proofs.NamedKeys.{OpensNone, named-goes, named-put, named-closed}
+use Rattle.usb_session_calls.proofs.NamedTickets.{tickets-goes, tickets-put, tickets-gone}
 use Rattle.usb_session_calls.proofs.FutureLemmas.{control_with, future-goes}
 use Rattle.usb_session_calls.proofs.NameLemmas.{named-freed, named-freed_other, map-freed, map-set, map-change_named}
 
@@ -89,8 +91,8 @@ module _ (s : SessionState) (now : HostState) (es : List (Option EndpointState))
         ]
       ]
 
-  pub sound-put : (y : EndpointState) → Changed (open_under s) after e (Some y) → Stands (bus_of now) y → y.key ≡ x.key → y.maximum ≡ x.maximum → IsSound (with_open s now es rs ws)
-  sound-put y put stands key maximum =
+  pub sound-put : (y : EndpointState) → Changed (open_under s) after e (Some y) → Stands (bus_of now) y → y.key ≡ x.key → y.maximum ≡ x.maximum → KeepsAccountsOf s.host now x.key x.pending y.pending → IsSound (with_open s now es rs ws)
+  sound-put y put stands key maximum accounts =
       record {
         idle = keeps.idle;
         device_names = sound.device_names;
@@ -113,6 +115,9 @@ module _ (s : SessionState) (now : HostState) (es : List (Option EndpointState))
         ];
         endpoints_differ = differ-put y put key;
         keys_named = named-put s.host.endpoints now.endpoints (open_under s) after s.futures e x y none was put key sound.keys_named;
+        tickets_named = tickets-put s sound now after e x was y put key accounts;
+        tickets_counted = accounts.count sound.tickets_counted;
+        claims_owned = accounts.claims.owned sound.claims_owned;
         future_names = sound.future_names;
         futures_wait = sound.futures_wait;
         futures_stand = futures-other s now e x sound was keeps others;
@@ -123,8 +128,8 @@ module _ (s : SessionState) (now : HostState) (es : List (Option EndpointState))
         ];
       }
 
-  pub sound-gone : Changed (open_under s) after e None → key_at now.endpoints x.key ≡ false → IsSound (with_open s now es rs ws)
-  sound-gone gone closed =
+  pub sound-gone : Changed (open_under s) after e None → key_at now.endpoints x.key ≡ false → KeepsAccountsOf s.host now x.key x.pending [] → IsSound (with_open s now es rs ws)
+  sound-gone gone closed accounts =
       record {
         idle = keeps.idle;
         device_names = sound.device_names;
@@ -141,6 +146,9 @@ module _ (s : SessionState) (now : HostState) (es : List (Option EndpointState))
         endpoints_small = λ d h is. sound.endpoints_small d h (changed-gone (open_under s) after e d h gone is).1;
         endpoints_differ = λ c d g h isg ish apart. sound.endpoints_differ c d g h (changed-gone (open_under s) after e c g gone isg).1 (changed-gone (open_under s) after e d h gone ish).1 apart;
         keys_named = named-closed s.host.endpoints now.endpoints (open_under s) after s.futures e x none closed was gone sound.keys_named;
+        tickets_named = tickets-gone s sound now after e x was gone accounts;
+        tickets_counted = accounts.count sound.tickets_counted;
+        claims_owned = accounts.claims.owned sound.claims_owned;
         future_names = sound.future_names;
         futures_wait = sound.futures_wait;
         futures_stand = futures-other s now e x sound was keeps others;
@@ -149,8 +157,8 @@ module _ (s : SessionState) (now : HostState) (es : List (Option EndpointState))
       }
 
 -- a host that went on by itself
-pub sound-host : (s : SessionState) (now : HostState) → IsSound s → KeepsSession s.host now → ((h : EndpointState) → Stands (bus_of s.host) h → Stands (bus_of now) h) → OpensNone s.host.endpoints now.endpoints → IsSound (record s { host = now })
-sound-host s now sound keeps stands none =
+pub sound-host : (s : SessionState) (now : HostState) → IsSound s → KeepsSession s.host now → ((h : EndpointState) → Stands (bus_of s.host) h → Stands (bus_of now) h) → OpensNone s.host.endpoints now.endpoints → KeepsAccounts s.host now → IsSound (record s { host = now })
+sound-host s now sound keeps stands none accounts =
     record {
       idle = keeps.idle;
       device_names = sound.device_names;
@@ -167,6 +175,9 @@ sound-host s now sound keeps stands none =
       endpoints_small = sound.endpoints_small;
       endpoints_differ = sound.endpoints_differ;
       keys_named = named-goes s.host.endpoints now.endpoints (open_under s) s.futures none sound.keys_named;
+      tickets_named = tickets-goes s.host now (open_under s) s.futures accounts sound.tickets_named;
+      tickets_counted = accounts.count sound.tickets_counted;
+      claims_owned = accounts.claims.owned sound.claims_owned;
       future_names = sound.future_names;
       futures_wait = sound.futures_wait;
       futures_stand = λ n f is. future-goes s.host now f (λ t. stands (control_with f.key t)) keeps.past (sound.futures_stand n f is);

@@ -38,6 +38,7 @@ use Rattle.usb_session_calls.specs.TargetCalls.{DevicesStand, InterfacesStand, K
 use Rattle.usb_session_calls.proofs.Answering.{told-answered, host_is}
 use Rattle.usb_session_calls.proofs.Called.{KeepsSession, sound-host, represents-host}
 use Rattle.usb_session_calls.proofs.ControlHosts.{spare-rested}
+use Rattle.usb_session_streams.proofs.AccountLemmas.{accounts-lent}
 use Rattle.usb_session_calls.proofs.LentHosts.{stands-lent}
 use Rattle.usb_session_calls.proofs.NameLemmas.{found_at}
 use Rattle.usb_session_calls.proofs.NamedKeys.{OpensNone}
@@ -147,7 +148,8 @@ sound-controlled s steps at now last sound is keeps rest =
     let none : OpensNone s.host.endpoints (host_rest now).endpoints = λ key open_. k.opened key (sym (ap (λ (keys : ℕ → Bool). keys key) goes.later.keys) ∙ open_) in
     subst (λ (h : HostState). IsSound (record s { host = h })) (sym rest)
     (sound-host s (host_rest now) sound session
-    (λ x stands. Stands-later (bus_of now) (bus_of (host_rest now)) x (k.stands x (stands-lent s.host (record s.host { steps = steps }) steps x refl stands)) goes.later) none)
+    (λ x stands. Stands-later (bus_of now) (bus_of (host_rest now)) x (k.stands x (stands-lent s.host (record s.host { steps = steps }) steps x refl stands)) goes.later) none
+    (accounts-lent s.host now steps k.accounts))
 
 pub spare-controlled : (S s : SessionState) (steps : List KernelStep) (at now last : HostState) → s ≡ S → at ≡ record s.host { steps = steps } → KeepsHandles at now → last ≡ host_rest now → length steps ≤ S.host.kernel.spare → last.kernel.spare + length steps ≡ S.host.kernel.spare
 spare-controlled S s steps at now last view is keeps rest room =

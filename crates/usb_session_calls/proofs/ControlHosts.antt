@@ -32,7 +32,11 @@ use Rattle.usb_device.specs.ControlCalls.{controlled}
 use Rattle.usb_device.specs.DescriptorCalls.{LeavesEither}
 use Rattle.usb_device.proofs.FreshKeys.{endpoint-within}
 use Rattle.usb_device.proofs.FutureFrames.{stays-started, others-started, started-stands, went-future, future-went, stays-taken, others-taken, controlled-devices, controlled-interfaces}
+use Rattle.std.specs.List.{cons_option}
+use Rattle.usb_session_streams.specs.Accounts.{KeepsAccountsOf}
+use Rattle.usb_session_streams.proofs.AccountLemmas.{accounts-same, accounts-of, of-then, of-lent}
 use Rattle.usb_session_calls.specs.TargetCalls.{KeepsHandles}
+use Rattle.usb_session_calls.proofs.FutureAccounts.{accounts-future_awaited, of-future_taken, accounts-controlled}
 use Rattle.usb_session_calls.proofs.Called.{KeepsSession}
 use Rattle.usb_session_calls.proofs.FutureSessions.{LeavesKey}
 use Rattle.usb_session_calls.proofs.NamedKeys.{key-before}
@@ -49,6 +53,7 @@ keeps-same h =
       past = extends-same h.kernel.past;
       stands = λ x stands. stands;
       opened = λ key open_. open_;
+      accounts = accounts-same h;
     }
 
 -- the keys that are open once an answer is taken
@@ -117,6 +122,7 @@ module _ (h : HostState) (device : ℕ) (request : TransferData) (timeout : ℕ)
         past = extends-trans h.kernel.past begun.kernel.past over.kernel.past start.past (extends-trans begun.kernel.past awaited.kernel.past over.kernel.past went.later.past taken.past);
         stands = stands-over count;
         opened = opened-over;
+        accounts = accounts-controlled h device request timeout count;
       }
 
   -- or memory was wanting
@@ -146,7 +152,7 @@ future-keys h f k some = by f.ticket some
     by None some = absurd (cc)
     by (Some t) some = taken-keys h f.key t k
 
-pub leaves-taken : (h : HostState) (f : FutureState) → h.steps ≡ [] → IsSome f.ticket → StandsFuture h f → LeavesKey h (future_taken h f) f.key
+pub leaves-taken : (h : HostState) (f : FutureState) → h.steps ≡ [] → IsSome f.ticket → StandsFuture h f → LeavesKey h (future_taken h f) f.key (cons_option f.ticket [])
 leaves-taken h f idle some stands =
     let stays = stays-taken h f in
     record {
@@ -159,6 +165,7 @@ leaves-taken h f idle some stands =
       others = others-taken h f stands;
       none = λ k open_. (without_key-other (key_at h.endpoints) f.key k (sym (future-keys h f k some) ∙ open_)).1;
       closed = future-keys h f f.key some ∙ without_key-here (key_at h.endpoints) f.key;
+      accounts = of-future_taken h f stands;
     }
 
 -- so it was after a wait with the steps of a line
@@ -203,13 +210,19 @@ module _ (host : HostState) (steps : List KernelStep) (f : FutureState) (some : 
       ap (λ (keys : ℕ → Bool). keys k) (went-rest gone).later.keys ∙ future-keys ready f k some
       ∙ ap (λ (keys : ℕ → Bool). without_key keys f.key k) waited.later.keys
 
-  pub leaves-waited : LeavesKey host (host_rest (future_taken (future_awaited (record host { steps = steps }) f) f)) f.key
+  waited-accounts : KeepsAccountsOf with_steps gone f.key (cons_option f.ticket []) []
+  waited-accounts =
+      of-then with_steps ready gone f.key (cons_option f.ticket []) (cons_option f.ticket []) [] (accounts-of with_steps ready f.key (cons_option f.ticket []) (accounts-future_awaited with_steps f))
+      (of-future_taken ready f (future-went with_steps ready f waited stands-lent_host))
+
+  pub leaves-waited : LeavesKey host (host_rest (future_taken (future_awaited (record host { steps = steps }) f) f)) f.key (cons_option f.ticket [])
   leaves-waited =
       record {
         session = waited-session;
         others = waited-others;
         none = λ k open_. (without_key-other (key_at host.endpoints) f.key k (sym (waited-keys k) ∙ open_)).1;
         closed = waited-keys f.key ∙ without_key-here (key_at host.endpoints) f.key;
+        accounts = of-lent host gone steps f.key (cons_option f.ticket []) [] waited-accounts;
       }
 
   pub spare-waited : length steps ≤ host.kernel.spare → (host_rest (future_taken (future_awaited (record host { steps = steps }) f) f)).kernel.spare + length steps ≡ host.kernel.spare

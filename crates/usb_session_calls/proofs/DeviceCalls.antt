@@ -1,5 +1,5 @@
 -- Calls on open devices: the session that they leave, and what they answer.
-use Rattle.std.proofs.Common.{◌≡◌, ◌∙◌, ◌≤◌, ◌+◌, ℕ, arith, Some, None, refl, ap, sym, subst}
+use Rattle.std.proofs.Common.{◌≡◌, ◌∙◌, ◌≤◌, ◌+◌, ℕ, List, arith, Some, None, refl, ap, sym, subst}
 use Rattle.usb_device_tables.specs.History.{value_at}
 use Rattle.usb_device_tables.proofs.ValueLemmas.{value-set_same}
 use Rattle.usb_session_text.specs.Calls.{condition_line}
@@ -8,6 +8,13 @@ use Rattle.usb_device_host.specs.HostState.{HostState}
 use Rattle.usb_device_host.specs.EndpointOpens.{as_asked, host_asked}
 use Rattle.usb_device_host.proofs.ClaimFrames.{goes-same}
 use Rattle.usb_device_host.proofs.EndpointLemmas.{asked-at}
+use Rattle.usb_device_ledger.specs.Entries.{HostTicket}
+use Rattle.usb_device_host.specs.HostBus.{owner_at}
+use Rattle.usb_device_host.specs.OnDevices.{host_reset}
+use Rattle.usb_device.specs.OwnerLaws.{KeepsClaims}
+use Rattle.usb_device.proofs.OwnerLaw.{claims_stay_owned}
+use Rattle.usb_session_streams.specs.Accounts.{KeepsAccounts}
+use Rattle.usb_session_streams.proofs.AccountLemmas.{accounts-same, accounts-kept, counted-kept}
 use Rattle.usb_session_calls.specs.Names.{named}
 use Rattle.usb_session_calls.specs.declared.call.DeviceCall.{DeviceCall}
 use Rattle.usb_session_calls.specs.declared.call.DeviceCall.TheVariants.{Descriptor, Descriptors, ActiveConfiguration, Speed, SetConfiguration, Reset, DetachDriver, AttachDriver}
@@ -19,7 +26,7 @@ use Rattle.usb_session_calls.specs.Relation.{Represents}
 use Rattle.usb_session_calls.proofs.Answering.{Gives, barred-gives, host_is}
 use Rattle.usb_session_calls.proofs.Called.{sound-host, represents-host}
 use Rattle.usb_session_calls.proofs.NamedKeys.{none-same}
-use Rattle.usb_session_calls.proofs.DeviceHosts.{KeepsHandles, KeepsAside, handles-same, stands-handles, asked-aside, speed-aside, configured-aside, reset-handles, reset-places, detached-aside, attached-aside}
+use Rattle.usb_session_calls.proofs.DeviceHosts.{KeepsHandles, KeepsAside, handles-same, stands-handles, asked-aside, speed-aside, configured-aside, reset-handles, reset-count, reset-places, detached-aside, attached-aside}
 
 -- what is open under a name of a device
 pub device-none : (s : SessionState) (state : State) (d : ℕ) → Represents s state → named s.devices d ≡ None → device_at state d ≡ None
@@ -44,14 +51,33 @@ called-handles Reset h x = reset-handles h x.key
 called-handles (DetachDriver number) h x = (detached-aside h x.key number).handles
 called-handles (AttachDriver number) h x = (attached-aside h x.key number).handles
 
-sound-handles : (s : SessionState) (next : HostState) → IsSound s → KeepsHandles s.host next → IsSound (record s { host = next })
-sound-handles s next sound keeps =
+-- and the accounts are kept
+aside-accounts : (h next : HostState) → KeepsClaims h next → KeepsAside h next → KeepsAccounts h next
+aside-accounts h next claims keeps = accounts-kept h next claims.kept keeps.handles.tickets keeps.past
+
+called-accounts : (call : DeviceCall) (h : HostState) (x : DeviceAt) → KeepsAccounts h (device_called call h x).host
+called-accounts Descriptor h x = accounts-same h
+called-accounts Descriptors h x = accounts-same h
+called-accounts ActiveConfiguration h x = aside-accounts h _ (claims_stay_owned.ask h x.key) (asked-aside h x.key)
+called-accounts Speed h x = aside-accounts h _ (claims_stay_owned.ask_speed h x.key) (speed-aside h x.key)
+called-accounts (SetConfiguration value) h x = aside-accounts h _ (claims_stay_owned.set_configuration h x.key value) (configured-aside h x.key value)
+called-accounts (DetachDriver number) h x = aside-accounts h _ (claims_stay_owned.detach h x.key number) (detached-aside h x.key number)
+called-accounts (AttachDriver number) h x = aside-accounts h _ (claims_stay_owned.attach h x.key number) (attached-aside h x.key number)
+called-accounts Reset h x =
+    record {
+      claims = (claims_stay_owned.reset h x.key).kept;
+      count = counted-kept h (host_reset h x.key) (reset-count h x.key);
+      held = λ t k own. ap (λ (ts : List HostTicket). owner_at ts t) (sym (reset-handles h x.key).tickets) ∙ own;
+    }
+
+sound-handles : (s : SessionState) (next : HostState) → IsSound s → KeepsHandles s.host next → KeepsAccounts s.host next → IsSound (record s { host = next })
+sound-handles s next sound keeps accounts =
     sound-host s next sound (record { idle = keeps.steps ∙ sound.idle; past = keeps.goes; devices = keeps.devices; interfaces = goes-same s.host.interfaces next.interfaces keeps.interfaces }) (stands-handles s.host next keeps)
-    (none-same s.host.endpoints next.endpoints keeps.endpoints)
+    (none-same s.host.endpoints next.endpoints keeps.endpoints) accounts
 
 pub called-sound : (s : SessionState) (now : HostState) (call : DeviceCall) (x : DeviceAt) → IsSound s → now ≡ (device_called call s.host x).host → IsSound (record s { host = now })
 called-sound s now call x sound is =
-    subst (λ (h : HostState). IsSound (record s { host = h })) (sym is) (sound-handles s (device_called call s.host x).host sound (called-handles call s.host x))
+    subst (λ (h : HostState). IsSound (record s { host = h })) (sym is) (sound-handles s (device_called call s.host x).host sound (called-handles call s.host x) (called-accounts call s.host x))
 
 -- no place of the journal is used, but one at most by a reset
 aside-places : (h next : HostState) → KeepsAside h next → h.kernel.spare ≤ next.kernel.spare + 0

@@ -15,7 +15,7 @@ use Rattle.usb_device_endpoint.proofs.Frames.{Stands-other}
 use Rattle.usb_device_ledger.specs.Entries.{HostEndpoint, ClaimedInterface}
 use Rattle.usb_device_host.specs.HostState.{HostState}
 use Rattle.usb_device_host.specs.HostBus.{bus_of}
-use Rattle.usb_device.specs.HandleStates.{InterfaceState}
+use Rattle.usb_device.specs.HandleStates.{InterfaceState, StandsInterface}
 use Rattle.usb_device.specs.Futures.{FutureState}
 use Rattle.usb_desc.specs.Fields.{direction_of_address, transfer_type, max_packet_size, max_packet_size_raw}
 use Rattle.usb_error.specs.Errors.{wrong_direction_error, wrong_type_error, no_packet_size_error, endpoint_in_use_error}
@@ -25,6 +25,12 @@ use Rattle.usb_device_host.specs.EndpointOpens.{host_asked, host_tries, with_end
 use Rattle.usb_device.proofs.StandLemmas.{StandsInterface-same}
 use Rattle.usb_device_host.proofs.InterfaceFrames.{asked-is, asked-counts}
 use Rattle.usb_device.proofs.FreshKeys.{endpoint-within}
+use Rattle.std.proofs.lemmas.Option.{same_Some}
+use Rattle.usb_device.specs.OwnerLaws.{IsOwned}
+use Rattle.usb_device.proofs.OwnerLaw.{claims_stay_owned}
+use Rattle.usb_device_host.proofs.CountLemmas.{asked-count}
+use Rattle.usb_session_streams.specs.Accounts.{KeepsAccounts}
+use Rattle.usb_session_streams.proofs.AccountLemmas.{accounts-kept, accounts-bus, accounts-then}
 use Rattle.usb_session_calls.specs.Names.{named, is_free, set_name}
 use Rattle.usb_session_calls.specs.State.{State, Endpoint, with_host}
 use Rattle.usb_session_calls.specs.OpenAt.{InterfaceAt}
@@ -35,7 +41,7 @@ use Rattle.usb_session_calls.specs.Relation.{Represents, session_of}
 use Rattle.usb_device_ledger.proofs.DeviceLemmas.{KeepsCounts, counts-there, opened-counts}
 use Rattle.usb_device.proofs.DeviceLemmas.{counts-stands}
 use Rattle.usb_device_host.specs.HostFrames.{ClaimsGoOn}
-use Rattle.usb_device_host.proofs.ClaimFrames.{goes-same}
+use Rattle.usb_device_host.proofs.ClaimFrames.{goes-same, handles-own}
 use Rattle.usb_device.proofs.HeldDevices.{held-goes}
 use Rattle.usb_session_calls.proofs.CountedDevices.{devices-kept}
 use Rattle.usb_session_calls.proofs.CountedNames.{counted-goes}
@@ -44,6 +50,7 @@ use Rattle.usb_session_calls.proofs.Called.{KeepsSession, sound-host, represents
 use Rattle.usb_session_calls.proofs.EndpointNameLemmas.{Changed, ChangedAt, changed-back, set-changes}
 use Rattle.usb_session_calls.proofs.Answering.{Gives, barred-gives, free_kept}
 use Rattle.usb_session_calls.proofs.NamedKeys.{none-bus, named-opened}
+use Rattle.usb_session_calls.proofs.NamedTickets.{tickets-opened}
 use Rattle.usb_session_calls.proofs.FutureLemmas.{control_with, future-goes, future-within, past-same}
 
 -- a look at the active configuration
@@ -60,10 +67,14 @@ asked-keeps h now key idle is =
 asked-bus : (h now : HostState) (key : ℕ) → now ≡ host_asked h key → bus_of now ≡ bus_of h
 asked-bus h now key is = ap bus_of (is ∙ asked-is h key)
 
+asked-accounts : (h now : HostState) (key : ℕ) → now ≡ host_asked h key → KeepsAccounts h now
+asked-accounts h now key is =
+    subst (KeepsAccounts h) (sym is) (accounts-bus h (host_asked h key) (claims_stay_owned.ask h key).kept (asked-count h key) (asked-bus h (host_asked h key) key refl))
+
 pub asked-sound : (s : SessionState) (now : HostState) (key : ℕ) → IsSound s → now ≡ host_asked s.host key → IsSound (record s { host = now })
 asked-sound s now key sound is =
     sound-host s now sound (asked-keeps s.host now key sound.idle is) (λ h stands. subst (λ (b : BusState). Stands b h) (sym (asked-bus s.host now key is)) stands)
-    (none-bus s.host now (asked-bus s.host now key is))
+    (none-bus s.host now (asked-bus s.host now key is)) (asked-accounts s.host now key is)
 
 pub asked-spare : (h now : HostState) (key : ℕ) → now ≡ host_asked h key → now.kernel.spare ≡ h.kernel.spare
 asked-spare h now key is = ap (λ (g : HostState). g.kernel.spare) (is ∙ asked-is h key)
@@ -78,6 +89,20 @@ opened-keeps h now key i address idle is =
       devices = subst (λ (g : HostState). KeepsCounts h.devices g.devices) (sym is) asked.devices;
       interfaces = subst (λ (g : HostState). ClaimsGoOn h.interfaces g.interfaces) (sym is) asked.interfaces;
     }
+
+-- on an interface that has an owner
+pub stands-owned : (h : HostState) (f : InterfaceState) → StandsInterface h f → IsOwned h f.key
+stands-owned h f stands c at =
+    let claim : stands.claim ≡ c = same_Some stands.claim c (sym stands.at ∙ at) in
+    handles-own h.tickets h.endpoints f.key c (subst (λ (d : ClaimedInterface). 0 < d.handles) claim stands.open_handle)
+
+opened-accounts : (h now : HostState) (key i address : ℕ) → IsOwned h i → now ≡ with_endpoint (host_asked h key) i address → KeepsAccounts h now
+opened-accounts h now key i address owned is =
+    let asked = host_asked h key in
+    let there = subst (λ (g : HostState). IsOwned g i) (sym (asked-is h key)) owned in
+    subst (KeepsAccounts h) (sym is)
+    (accounts-then h asked (with_endpoint asked i address) (asked-accounts h asked key refl)
+    (accounts-kept asked (with_endpoint asked i address) (claims_stay_owned.open_endpoint asked i address there).kept refl refl))
 
 -- which is the last
 opened-endpoints : (h now : HostState) (key i address : ℕ) → now ≡ with_endpoint (host_asked h key) i address → now.endpoints ≡ h.endpoints ++ Some (record { interface = Some i; address = address; is_open = true }) ∷ []
@@ -113,8 +138,9 @@ maximum-small h i c address kind direction m is =
     tried-small (endpoint_in c address (value_at h.devices c.opened)) address kind direction (is_in_use h i address) m is
 
 -- a session in which one more endpoint is open
-pub endpoint-sound : (s : SessionState) (now : HostState) (after : List (Option EndpointState)) (e i address : ℕ) (y : EndpointState) (c : ClaimedInterface) → IsSound s → now ≡ with_endpoint (host_asked s.host c.opened) i address → y.key ≡ length s.host.endpoints → y.maximum < 2048 → Stands (bus_of now) y → KeepsOthers (bus_of s.host) (bus_of now) y.key → is_free s.endpoints e ≡ true → after ≡ set_name s.endpoints e y → IsSound (record s { host = now; endpoints = after })
-endpoint-sound s now after e i address y c sound is key small stands others free put =
+pub endpoint-sound : (s : SessionState) (now : HostState) (after : List (Option EndpointState)) (e i address : ℕ) (y : EndpointState) (c : ClaimedInterface) → IsSound s → now ≡ with_endpoint (host_asked s.host c.opened) i address → y.key ≡ length s.host.endpoints → y.maximum < 2048 → Stands (bus_of now) y → KeepsOthers (bus_of s.host) (bus_of now) y.key → is_free s.endpoints e ≡ true → after ≡ set_name s.endpoints e y → IsOwned s.host i → IsSound (record s { host = now; endpoints = after })
+endpoint-sound s now after e i address y c sound is key small stands others free put owned =
+    let accounts = opened-accounts s.host now c.opened i address owned is in
     let keeps = opened-keeps s.host now c.opened i address sound.idle is in
     let opened : Changed (open_under s) (open_under (record s { host = now; endpoints = after })) (Own e) (Some y) = own-open s now e after (Some y) (subst (λ l. ChangedAt s.endpoints l e (Some y)) (sym put) (set-changes s.endpoints e y free)) in
     let old : (d : EndpointName) (g : EndpointState) → open_under s d ≡ Some g → g.key ≢ y.key = λ d g at. apart-next g.key y.key (length s.host.endpoints) (endpoint-within s.host g (sound.endpoints_stand d g at)) key in
@@ -152,6 +178,9 @@ endpoint-sound s now after e i address y c sound is key small stands others free
       keys_named =
           named-opened s.host.endpoints now.endpoints (open_under s) (open_under (record s { host = now; endpoints = after })) s.futures (Own e) (record { interface = Some i; address = address; is_open = true }) y
           (opened-endpoints s.host now c.opened i address is) key (free-none s.endpoints e free) opened sound.keys_named;
+      tickets_named = tickets-opened s.host now (open_under s) (open_under (record s { host = now; endpoints = after })) s.futures (Own e) (Some y) accounts (free-none s.endpoints e free) opened sound.tickets_named;
+      tickets_counted = accounts.count sound.tickets_counted;
+      claims_owned = accounts.claims.owned sound.claims_owned;
       future_names = sound.future_names;
       futures_wait = sound.futures_wait;
       futures_stand = λ n f at. future-goes s.host now f (λ t. Stands-other (bus_of s.host) (bus_of now) y.key (control_with f.key t) others (newer n f at)) keeps.past (sound.futures_stand n f at);

@@ -24,6 +24,9 @@ use Rattle.usb_device.proofs.FreshKeys.{endpoint-within}
 use Rattle.usb_device.proofs.HeldDevices.{held-goes}
 use Rattle.usb_device_host.proofs.HostKeeps.{KeepsOpen}
 use Rattle.usb_device.proofs.StandLemmas.{StandsInterface-same}
+use Rattle.std.specs.List.{cons_option}
+use Rattle.usb_session_streams.specs.Accounts.{KeepsAccountsOf}
+use Rattle.usb_session_streams.proofs.AccountLemmas.{accounts-of, accounts-left, of-then, of-abandoned, key-goes}
 use Rattle.usb_session_calls.specs.Names.{named, is_free, freed, set_name}
 use Rattle.usb_session_calls.specs.EndpointNames.{EndpointName}
 use Rattle.usb_session_calls.specs.SessionState.{SessionState, IsSound, open_under}
@@ -32,14 +35,16 @@ use Rattle.usb_session_calls.proofs.CountedNames.{counted-goes}
 use Rattle.usb_session_calls.proofs.CountedDevices.{devices-kept}
 use Rattle.usb_session_calls.proofs.FutureLemmas.{control_with, future-goes, future-within}
 use Rattle.usb_session_calls.proofs.NameLemmas.{length-freed, length-set_name, names-set}
+use Rattle.usb_session_calls.proofs.NamedTickets.{tickets-future_gone, tickets-future_opened}
 use Rattle.usb_session_calls.proofs.NamedKeys.{OpensNone, none-goes, named-future_closed, named-future_opened}
 
--- what a session stands on is kept, and the endpoint of a key is open no more
-pub record LeavesKey (old new : HostState) (key : ℕ) : Type 0 where
+-- what a session stands on is kept, and the endpoint of a key, at which these were pending, is open no more
+pub record LeavesKey (old new : HostState) (key : ℕ) (pending : List ℕ) : Type 0 where
   pub session : KeepsSession old new
   pub others : KeepsOthers (bus_of old) (bus_of new) key
   pub none : OpensNone old.endpoints new.endpoints
   pub closed : key_at new.endpoints key ≡ false
+  pub accounts : KeepsAccountsOf old new key pending []
 
 -- its ticket has ended (`mid`), and then it was left
 module _ (h mid : HostState) (key t : ℕ) (keeps : KeepsOpen h mid) where
@@ -73,26 +78,28 @@ module _ (h mid : HostState) (key t : ℕ) (keeps : KeepsOpen h mid) where
       before : (keys : ℕ → Bool) → without_key keys key k ≡ true → keys k ≡ true
       before keys is = cond_both (key == k) false (keys k) (λ b. b ≡ true → keys k ≡ true) (λ same no_. absurd (cc)) (λ other was. was) is
 
-  pub leaves-key : h.steps ≡ [] → mid.kernel.past ≡ h.kernel.past → bus_of mid ≡ record (bus_of h) { owner = without_owner (owner_at h.tickets) t } → owner_at h.tickets t ≡ Some key → LeavesKey h (host_left mid key) key
-  leaves-key idle past ended held =
+  pub leaves-key : h.steps ≡ [] → mid.kernel.past ≡ h.kernel.past → bus_of mid ≡ record (bus_of h) { owner = without_owner (owner_at h.tickets) t } → owner_at h.tickets t ≡ Some key → key_at h.endpoints key ≡ true → KeepsAccountsOf h mid key (t ∷ []) [] → LeavesKey h (host_left mid key) key (t ∷ [])
+  leaves-key idle past ended held open_ accounts =
       record {
         session = left-session idle past;
         others = left-others ended held;
         none = left-none;
         closed = left-open key ∙ rw (eq-eqb key key refl) refl;
+        accounts = of-then h mid (host_left mid key) key (t ∷ []) [] [] accounts (accounts-of mid (host_left mid key) key [] (accounts-left mid key (key-goes h.endpoints mid.endpoints key keeps.endpoints open_)));
       }
 
 -- so it is of the close of a future that stands and has its ticket still
-pub leaves-closed : (h : HostState) (f : FutureState) → h.steps ≡ [] → IsSome f.ticket → StandsFuture h f → LeavesKey h (future_closed h f) f.key
+pub leaves-closed : (h : HostState) (f : FutureState) → h.steps ≡ [] → IsSome f.ticket → StandsFuture h f → LeavesKey h (future_closed h f) f.key (cons_option f.ticket [])
 leaves-closed h f idle some stands = by f.ticket refl some
   where
-    by : (o : Option ℕ) → f.ticket ≡ o → IsSome o → LeavesKey h (closed_by h f.key o) f.key
+    by : (o : Option ℕ) → f.ticket ≡ o → IsSome o → LeavesKey h (closed_by h f.key o) f.key (cons_option o [])
     by None at some = absurd (cc)
     by (Some t) at some =
-        leaves-key h (host_abandoned h t) f.key t (keeps-abandoned h t) idle (abandoned-past h t) (bus-abandoned h t) (stands.on_its_way t at).held
+        let way = stands.on_its_way t at in
+        leaves-key h (host_abandoned h t) f.key t (keeps-abandoned h t) idle (abandoned-past h t) (bus-abandoned h t) way.held way.key_is_open (of-abandoned h t [] f.key)
 
 -- a future is open no more, and its name is free
-pub sound-future_freed : (s : SessionState) (now : HostState) (after : List (Option FutureState)) (n : ℕ) (x : FutureState) → IsSound s → named s.futures n ≡ Some x → after ≡ freed s.futures n → LeavesKey s.host now x.key → IsSound (record s { host = now; futures = after })
+pub sound-future_freed : (s : SessionState) (now : HostState) (after : List (Option FutureState)) (n : ℕ) (x : FutureState) → IsSound s → named s.futures n ≡ Some x → after ≡ freed s.futures n → LeavesKey s.host now x.key (cons_option x.ticket []) → IsSound (record s { host = now; futures = after })
 sound-future_freed s now after n x sound was rest leaves =
     let keeps = leaves.session in
     let before : (m : ℕ) (f : FutureState) → named after m ≡ Some f → (m ≢ n) × (named s.futures m ≡ Some f) = λ m f is. names-freed s.futures after n m f rest is in
@@ -119,12 +126,15 @@ sound-future_freed s now after n x sound was rest leaves =
       futures_differ = λ m k f g isf isg apart. sound.futures_differ m k f g (before m f isf).1 (before k g isg).1 apart;
       futures_apart = λ e m h f ish isf. sound.futures_apart e m h f ish (before m f isf).1;
       keys_named = named-future_closed s.host.endpoints now.endpoints (open_under s) s.futures after n x leaves.none leaves.closed was rest sound.keys_named;
+      tickets_named = tickets-future_gone s sound now after n x was rest leaves.accounts;
+      tickets_counted = leaves.accounts.count sound.tickets_counted;
+      claims_owned = leaves.accounts.claims.owned sound.claims_owned;
     }
 
 -- a future is open under a name that was free
 pub sound-future_opened : (s : SessionState) (now : HostState) (after : List (Option FutureState)) (n : ℕ) (x : FutureState) (h : HostEndpoint) → IsSound s → is_free s.futures n ≡ true → after ≡ set_name s.futures n x → x.key ≡ length s.host.endpoints → IsSome x.ticket → StandsFuture now x
-    → KeepsSession s.host now → KeepsOthers (bus_of s.host) (bus_of now) x.key → now.endpoints ≡ s.host.endpoints ++ Some h ∷ [] → IsSound (record s { host = now; futures = after })
-sound-future_opened s now after n x h sound free put key some stands keeps others more =
+    → KeepsSession s.host now → KeepsOthers (bus_of s.host) (bus_of now) x.key → now.endpoints ≡ s.host.endpoints ++ Some h ∷ [] → KeepsAccountsOf s.host now x.key [] (cons_option x.ticket []) → IsSound (record s { host = now; futures = after })
+sound-future_opened s now after n x h sound free put key some stands keeps others more accounts =
     let old : (f : FutureState) (m : ℕ) → named s.futures m ≡ Some f → f.key ≢ x.key = λ f m at. apart f.key (future-within s.host f (sound.futures_wait m f at) (sound.futures_stand m f at)) in
     let older : (g : EndpointState) (e : EndpointName) → open_under s e ≡ Some g → g.key ≢ x.key = λ g e at. apart g.key (endpoint-within s.host g (sound.endpoints_stand e g at)) in
     record {
@@ -167,6 +177,9 @@ sound-future_opened s now after n x h sound free put key some stands keeps other
         | inr there ↦ sound.futures_apart e m g f isg there.1
       ];
       keys_named = named-future_opened s.host.endpoints now.endpoints (open_under s) s.futures after n h x more key free put sound.keys_named;
+      tickets_named = tickets-future_opened s sound now after n x free put (λ e g at. older g e at) (λ m f at. old f m at) accounts;
+      tickets_counted = accounts.count sound.tickets_counted;
+      claims_owned = accounts.claims.owned sound.claims_owned;
     }
   where
     apart : (k : ℕ) → k < length s.host.endpoints → k ≢ x.key

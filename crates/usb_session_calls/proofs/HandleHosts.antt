@@ -1,5 +1,5 @@
 -- Hosts after calls on handles of interfaces.
-use Rattle.std.proofs.Common.{◌≡◌, ℕ, ◌<◌, ◌+◌, ◌-◌, Bool, [], ◌∷◌, ◌++◌, set, Option, Some, None, Result, Ok, Err, refl, ap, sym, ◌∙◌, subst, inl, inr}
+use Rattle.std.proofs.Common.{◌≡◌, ℕ, ◌<◌, ◌+◌, ◌-◌, Bool, [], ◌∷◌, ◌++◌, length, set, Option, Some, None, Result, Ok, Err, refl, ap, sym, ◌∙◌, subst, inl, inr}
 use Rattle.std.proofs.lemmas.Bool.{cases_Bool, cases_eq}
 use Rattle.std.proofs.lemmas.Option.{same_Some}
 use Rattle.usb_device_tables.specs.History.{value_at}
@@ -25,28 +25,31 @@ use Rattle.usb_device_host.proofs.HostKeeps.{KeepsSteps}
 use Rattle.usb_device_ledger.proofs.DeviceLemmas.{KeepsOpened, opened-same}
 use Rattle.usb_device.proofs.HeldDevices.{opened-claimed, opened-handle_closed}
 use Rattle.usb_device.specs.DeviceLaws.{DevicesAreHeld}
+use Rattle.usb_kernel.specs.Tickets.{tickets}
+use Rattle.usb_device_host.proofs.CountLemmas.{KeepsCount, count-same, claimed-count, handle_closed-count}
 use Rattle.usb_session_calls.proofs.SoundDevices.{stands-held}
 use Rattle.usb_device_host.proofs.InterfaceFrames.{bus-claimed, line-claimed, bus-handle_closed, line-handle_closed}
 use Rattle.usb_device_host.proofs.CalledHosts.{setting-in_use, setting-asked}
 
--- beside its interfaces a host is as it was to a session, and each open device has as many handles
+-- beside its interfaces a host is as it was to a session, with as many tickets, and each open device has as many handles
 pub record KeepsBeside (old new : HostState) : Type 0 where
   pub line : KeepsSteps old new
   pub devices : KeepsOpened old.devices new.devices
   pub bus : bus_of new ≡ bus_of old
+  pub count : KeepsCount old new
 
 pub claimed-keeps : (h : HostState) (key number : ℕ) (reattach : Bool) → KeepsBeside h (host_claimed h key number reattach)
-claimed-keeps h key number reattach = record { line = line-claimed h key number reattach; devices = opened-claimed h key number reattach; bus = bus-claimed h key number reattach }
+claimed-keeps h key number reattach = record { line = line-claimed h key number reattach; devices = opened-claimed h key number reattach; bus = bus-claimed h key number reattach; count = claimed-count h key number reattach }
 
 pub closed-keeps : (h : HostState) (i : ℕ) → KeepsBeside h (handle_closed h i)
-closed-keeps h i = record { line = line-handle_closed h i; devices = opened-handle_closed h i; bus = bus-handle_closed h i }
+closed-keeps h i = record { line = line-handle_closed h i; devices = opened-handle_closed h i; bus = bus-handle_closed h i; count = handle_closed-count h i }
 
 same-keeps : (h : HostState) → KeepsBeside h h
-same-keeps h = record { line = record { steps = refl; spare = refl }; devices = opened-same h.devices h.devices refl; bus = refl }
+same-keeps h = record { line = record { steps = refl; spare = refl }; devices = opened-same h.devices h.devices refl; bus = refl; count = count-same h }
 
 added-keeps : (h : HostState) (i : ℕ) (o : Option ClaimedInterface) → KeepsBeside h (handle_added h i o)
 added-keeps h i None = same-keeps h
-added-keeps h i (Some c) = record { line = record { steps = refl; spare = refl }; devices = opened-same h.devices h.devices refl; bus = refl }
+added-keeps h i (Some c) = record { line = record { steps = refl; spare = refl }; devices = opened-same h.devices h.devices refl; bus = refl; count = record { count = refl; past = refl } }
 
 pub cloned-keeps : (h : HostState) (i : ℕ) → KeepsBeside h (handle_cloned h i)
 unfolding handle_cloned
@@ -69,6 +72,7 @@ setting_asked-keeps h i setting c =
       line = record { steps = ap (λ (g : HostState). g.steps) is; spare = ap (λ (g : HostState). g.kernel.spare) is };
       devices = opened-same h.devices _ (ap (λ (g : HostState). g.devices) is);
       bus = ap bus_of is;
+      count = record { count = ap (λ (g : HostState). length g.tickets) is; past = ap (λ (g : HostState). length (tickets g.kernel.past)) is };
     }
 
 pub setting-keeps : (h : HostState) (i setting : ℕ) (c : ClaimedInterface) → value_at h.interfaces i ≡ Some c → KeepsBeside h (alt_setting_set h i setting)

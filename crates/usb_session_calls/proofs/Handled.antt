@@ -21,6 +21,9 @@ use Rattle.usb_device.proofs.StandLemmas.{StandsInterface-claimed}
 use Rattle.usb_device.proofs.FreshKeys.{stands-within}
 use Rattle.usb_device_host.proofs.CalledHosts.{setting-in_use, setting-asked}
 use Rattle.std.proofs.lemmas.Bool.{cases_Bool}
+use Rattle.usb_device.specs.OwnerLaws.{KeepsOwned}
+use Rattle.usb_device.proofs.OwnerLaw.{claims_stay_owned}
+use Rattle.usb_session_streams.proofs.AccountLemmas.{accounts-bus}
 use Rattle.usb_session_calls.specs.Names.{named, is_free, freed, set_name}
 use Rattle.usb_session_calls.specs.State.{State}
 use Rattle.usb_session_calls.specs.SessionState.{SessionState, IsSound, open_under}
@@ -29,12 +32,14 @@ use Rattle.usb_session_calls.proofs.NameLemmas.{length-set_name, length-freed, n
 use Rattle.usb_session_calls.proofs.CountedNames.{Counted, counted-same, counted-goes, counted-open, counted-claimed, counted-closed, counted-cloned, counted-changed}
 use Rattle.usb_session_calls.proofs.Called.{names-freed}
 use Rattle.usb_session_calls.proofs.NamedKeys.{none-bus, named-goes}
+use Rattle.usb_session_calls.proofs.NamedTickets.{tickets-goes}
 use Rattle.usb_session_calls.proofs.FutureLemmas.{future-same}
 use Rattle.usb_session_calls.proofs.HandleHosts.{KeepsBeside, WritesOne, fewer, more, claimed-keeps, closed-keeps, cloned-keeps, setting-keeps, closed-writes, cloned-writes, stands-written, setting_unless-like, setting_unless-handles, claim-interfaces, claim-refused_interfaces}
 
 -- the interfaces and their names change together
-sound-handled : (s : SessionState) (now : HostState) (after : List (Option InterfaceState)) → IsSound s → KeepsBeside s.host now → length after ≡ length s.interfaces → ((n : ℕ) (f : InterfaceState) → named after n ≡ Some f → StandsInterface now f) → Counted now.interfaces after → DevicesAreHeld now → IsSound (record s { host = now; interfaces = after })
-sound-handled s now after sound keeps names stands counted held =
+sound-handled : (s : SessionState) (now : HostState) (after : List (Option InterfaceState)) → IsSound s → KeepsBeside s.host now → length after ≡ length s.interfaces → ((n : ℕ) (f : InterfaceState) → named after n ≡ Some f → StandsInterface now f) → Counted now.interfaces after → DevicesAreHeld now → KeepsOwned s.host now → IsSound (record s { host = now; interfaces = after })
+sound-handled s now after sound keeps names stands counted held claims =
+    let accounts = accounts-bus s.host now claims keeps.count keeps.bus in
     record {
       idle = keeps.line.steps ∙ sound.idle;
       device_names = sound.device_names;
@@ -51,6 +56,9 @@ sound-handled s now after sound keeps names stands counted held =
       endpoints_small = sound.endpoints_small;
       endpoints_differ = sound.endpoints_differ;
       keys_named = named-goes s.host.endpoints now.endpoints (open_under s) s.futures (none-bus s.host now keeps.bus) sound.keys_named;
+      tickets_named = tickets-goes s.host now (open_under s) s.futures accounts sound.tickets_named;
+      tickets_counted = accounts.count sound.tickets_counted;
+      claims_owned = claims.owned sound.claims_owned;
       future_names = sound.future_names;
       futures_wait = sound.futures_wait;
       futures_stand = λ n f at. future-same s.host now f keeps.bus (sound.futures_stand n f at);
@@ -72,7 +80,7 @@ closed-here s after n f sound was rest =
     stands-written s.host now f.key stands.claim (fewer stands.claim) g writes held
     (λ e at. counted-open written after m g e counted open_ at)
     (sound.interfaces_stand m g (names-freed s.interfaces after n m g rest open_).1))
-    (counted-goes written now.interfaces after writes.goes counted) held
+    (counted-goes written now.interfaces after writes.goes counted) held (claims_stay_owned.close_handle s.host f stands)
 
 pub sound-closed : (s : SessionState) (now : HostState) (after : List (Option InterfaceState)) (n : ℕ) (f : InterfaceState) → IsSound s → named s.interfaces n ≡ Some f → after ≡ freed s.interfaces n → now ≡ handle_closed s.host f.key → IsSound (record s { host = now; interfaces = after })
 sound-closed s now after n f sound was rest is =
@@ -95,7 +103,7 @@ cloned-here s after n i f sound was free put =
     (λ m g open_.
     stands-written s.host now f.key stands.claim (more stands.claim) g writes held
     (λ e at. counted-open written after m g e counted open_ at) (before m g open_))
-    (counted-goes written now.interfaces after writes.goes counted) held
+    (counted-goes written now.interfaces after writes.goes counted) held (claims_stay_owned.clone_handle s.host f stands).kept
 
 pub sound-cloned : (s : SessionState) (now : HostState) (after : List (Option InterfaceState)) (n i : ℕ) (f : InterfaceState) → IsSound s → named s.interfaces i ≡ Some f → is_free s.interfaces n ≡ true → after ≡ set_name s.interfaces n f → now ≡ handle_cloned s.host f.key → IsSound (record s { host = now; interfaces = after })
 sound-cloned s now after n i f sound was free put is =
@@ -112,7 +120,7 @@ claimed-here s after i key number reattach o f sound at tried next stands free p
       | inl here ↦ subst (StandsInterface now) (sym here.1) stands
       | inr there ↦ StandsInterface-claimed s.host key number reattach g (sound.interfaces_stand m g there.1)
     ])
-    counted (held-claimed s.host key number reattach sound.devices_held)
+    counted (held-claimed s.host key number reattach sound.devices_held) (claims_stay_owned.claim s.host key number reattach).kept
 
 key-next : (next key : ℕ) (t : Result (Unit {0}) ErrorState) → claimed_key next t ≡ Ok key → key ≡ next
 key-next next key (Err error) tried = absurd (cc)
@@ -130,22 +138,22 @@ refused-here s key number reattach o error sound at tried =
     sound-handled s now s.interfaces sound (claimed-keeps s.host key number reattach) refl
     (λ m g open_. StandsInterface-claimed s.host key number reattach g (sound.interfaces_stand m g open_))
     (counted-same s.host.interfaces now.interfaces s.interfaces (claim-refused_interfaces s.host key number reattach o (length s.host.interfaces) error at tried) sound.interfaces_counted)
-    (held-claimed s.host key number reattach sound.devices_held)
+    (held-claimed s.host key number reattach sound.devices_held) (claims_stay_owned.claim s.host key number reattach).kept
 
 pub sound-refused : (s : SessionState) (now : HostState) (key number : ℕ) (reattach : Bool) (o : OpenDevice) (error : ErrorState) → IsSound s → value_at s.host.devices key ≡ Some o → claimed_key (length s.host.interfaces) (claim_tried s.host o number reattach) ≡ Err error → now ≡ host_claimed s.host key number reattach → IsSound (record s { host = now })
 sound-refused s now key number reattach o error sound at tried is =
     subst (λ (h : HostState). IsSound (record s { host = h })) (sym is) (refused-here s key number reattach o error sound at tried)
 
 -- an alternate setting is set
-written-sound : (s : SessionState) (now : HostState) (k : ℕ) (c d : ClaimedInterface) → IsSound s → KeepsBeside s.host now → WritesOne s.host now k c d → d.handles ≡ c.handles → DevicesAreHeld now → IsSound (record s { host = now })
-written-sound s now k c d sound keeps writes handles held =
+written-sound : (s : SessionState) (now : HostState) (k : ℕ) (c d : ClaimedInterface) → IsSound s → KeepsBeside s.host now → WritesOne s.host now k c d → d.handles ≡ c.handles → DevicesAreHeld now → KeepsOwned s.host now → IsSound (record s { host = now })
+written-sound s now k c d sound keeps writes handles held claims =
     let written = set s.host.interfaces k (Some d) in
     let counted = counted-changed s.host.interfaces written s.interfaces k c d sound.interfaces_counted writes.at refl handles in
     sound-handled s now s.interfaces sound keeps refl
     (λ m g open_.
     stands-written s.host now k c d g writes held
     (λ e at. counted-open written s.interfaces m g e counted open_ at) (sound.interfaces_stand m g open_))
-    (counted-goes written now.interfaces s.interfaces writes.goes counted) held
+    (counted-goes written now.interfaces s.interfaces writes.goes counted) held claims
 
 held-setting : (s : SessionState) (now : HostState) (k setting : ℕ) (c : ClaimedInterface) (errno : Option ℕ) → IsSound s → value_at s.host.interfaces k ≡ Some c → now.devices ≡ s.host.devices → now.interfaces ≡ set s.host.interfaces k (Some (setting_unless c setting errno)) → DevicesAreHeld now
 held-setting s now k setting c None sound at devices is = held-written s.host now k c (setting_unless c setting None) (counts-same s.host.devices now.devices devices) at is refl refl sound.devices_held
@@ -163,6 +171,7 @@ set-here s k setting c sound at =
           (setting_unless-like s.host now k setting c errno at (ap (λ (h : HostState). h.interfaces) (setting-asked s.host k setting c at none)))
           (setting_unless-handles c setting errno)
           (held-setting s now k setting c errno sound at (ap (λ (h : HostState). h.devices) (setting-asked s.host k setting c at none)) (ap (λ (h : HostState). h.interfaces) (setting-asked s.host k setting c at none)))
+          (claims_stay_owned.set_alt_setting s.host k setting).kept
     ]
 
 pub sound-set : (s : SessionState) (now : HostState) (k setting : ℕ) (c : ClaimedInterface) → IsSound s → value_at s.host.interfaces k ≡ Some c → now ≡ alt_setting_set s.host k setting → IsSound (record s { host = now })

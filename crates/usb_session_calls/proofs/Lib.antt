@@ -9,6 +9,7 @@ pub mod CountedDevices
 pub mod DeviceCalls
 pub mod DeviceHosts
 pub mod EndpointOpened
+pub mod FutureAccounts
 pub mod FutureLemmas
 pub mod FutureSessions
 pub mod HaltCode
@@ -16,6 +17,7 @@ pub mod HandleHosts
 pub mod Handled
 pub mod InterfaceHandles
 pub mod NamedKeys
+pub mod NamedTickets
 pub mod PollCode
 pub mod ReaderCode
 pub mod Queue

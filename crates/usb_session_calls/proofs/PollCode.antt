@@ -16,7 +16,7 @@ use Rattle.usb_session_calls.specs.State.{State, Endpoint, with_host}
 use Rattle.usb_session_calls.specs.Answer.{Answer, answer_with}
 use Rattle.usb_session_calls.specs.Polls.{poll_on, took}
 use Rattle.usb_session_calls.specs.OpenCalls.{CallKeeps, CallAnswers}
-use Rattle.usb_session_calls.proofs.Queue.{call-told, front_kept, front-answers, polled-goes, polled-past, polled-rest}
+use Rattle.usb_session_calls.proofs.Queue.{call-told, front_kept, front-answers, polled-goes, polled-past, polled-rest, polled-accounts}
 
 abbrev pub poll : State → ℕ → Endpoint → Answer
 poll state e h = poll_on state e (slice_get h.state.pending 0)
@@ -59,6 +59,7 @@ poll-keeps host now x y r is stands others =
       others = others;
       key = ap (λ (z : EndpointState). z.key) rest;
       maximum = ap (λ (z : EndpointState). z.maximum) rest;
+      accounts = polled-accounts host x r now y is;
     }
 
 -- the number of pending transfers is told

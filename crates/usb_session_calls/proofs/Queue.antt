@@ -15,6 +15,8 @@ use Rattle.usb_device_host.specs.TicketEnds.{host_taken}
 use Rattle.usb_device_host.proofs.CallFrames.{keeps-open, keeps-taken}
 use Rattle.usb_device_host.proofs.WaitFrames.{line-keeps}
 use Rattle.usb_device_host.proofs.FollowLemmas.{taken-past}
+use Rattle.usb_session_streams.specs.Accounts.{KeepsAccountsOf}
+use Rattle.usb_session_streams.proofs.AccountLemmas.{of-same, of-taken}
 use Rattle.usb_session_calls.specs.Names.{change_named}
 use Rattle.usb_session_calls.specs.State.{State, Endpoint, with_host}
 use Rattle.usb_session_calls.specs.Answer.{Answer, answer_with}
@@ -93,16 +95,22 @@ module _ (mid : HostState) (x : EndpointState) where
   taken_if-keeps P t ts None here taken = here
   taken_if-keeps P t ts (Some c) here taken = taken c
 
-  polled_of-keeps : (P : Polled HostState → Type 0) (l : List ℕ) → P (front_found None mid x) → ((t : ℕ) (ts : List ℕ) (c : Completion) → P (front_found (Some c) (host_taken mid t) (record x { pending = ts }))) → P (polled_of host_calls mid x l)
+  polled_of-keeps : (P : Polled HostState → Type 0) (l : List ℕ) → P (front_found None mid x) → ((t : ℕ) (ts : List ℕ) (c : Completion) → l ≡ t ∷ ts → P (front_found (Some c) (host_taken mid t) (record x { pending = ts }))) → P (polled_of host_calls mid x l)
   polled_of-keeps P [] here taken = here
-  polled_of-keeps P (t ∷ ts) here taken = taken_if-keeps P t ts (transfer_completion mid.kernel.past t) here (taken t ts)
+  polled_of-keeps P (t ∷ ts) here taken = taken_if-keeps P t ts (transfer_completion mid.kernel.past t) here (λ c. taken t ts c refl)
 
   module _ (r : Option Completion) (now : HostState) (y : EndpointState) (is : polled host_calls mid x ≡ front_found r now y) where
     pub polled-goes : LineGoesOn mid now
-    polled-goes = subst (λ (p : Polled HostState). LineGoesOn mid p.bus) is (polled_of-keeps (λ p. LineGoesOn mid p.bus) x.pending (line-keeps mid mid (keeps-open mid)) (λ t ts c. line-keeps mid (host_taken mid t) (keeps-taken mid t)))
+    polled-goes = subst (λ (p : Polled HostState). LineGoesOn mid p.bus) is (polled_of-keeps (λ p. LineGoesOn mid p.bus) x.pending (line-keeps mid mid (keeps-open mid)) (λ t ts c was. line-keeps mid (host_taken mid t) (keeps-taken mid t)))
 
     pub polled-past : Extends mid.kernel.past now.kernel.past
-    polled-past = subst (λ (p : Polled HostState). Extends mid.kernel.past p.bus.kernel.past) is (polled_of-keeps (λ p. Extends mid.kernel.past p.bus.kernel.past) x.pending (extends-same mid.kernel.past) (λ t ts c. record { more = []; is = taken-past mid t }))
+    polled-past = subst (λ (p : Polled HostState). Extends mid.kernel.past p.bus.kernel.past) is (polled_of-keeps (λ p. Extends mid.kernel.past p.bus.kernel.past) x.pending (extends-same mid.kernel.past) (λ t ts c was. record { more = []; is = taken-past mid t }))
 
     pub polled-rest : y ≡ record x { pending = y.pending }
-    polled-rest = subst (λ (p : Polled HostState). p.endpoint ≡ record x { pending = p.endpoint.pending }) is (polled_of-keeps (λ p. p.endpoint ≡ record x { pending = p.endpoint.pending }) x.pending refl (λ t ts c. refl))
+    polled-rest = subst (λ (p : Polled HostState). p.endpoint ≡ record x { pending = p.endpoint.pending }) is (polled_of-keeps (λ p. p.endpoint ≡ record x { pending = p.endpoint.pending }) x.pending refl (λ t ts c was. refl))
+
+    pub polled-accounts : KeepsAccountsOf mid now x.key x.pending y.pending
+    polled-accounts =
+        subst (λ (p : Polled HostState). KeepsAccountsOf mid p.bus x.key x.pending p.endpoint.pending) is
+        (polled_of-keeps (λ p. KeepsAccountsOf mid p.bus x.key x.pending p.endpoint.pending) x.pending (of-same mid x.key x.pending)
+        (λ t ts c was. subst (λ (l : List ℕ). KeepsAccountsOf mid (host_taken mid t) x.key l ts) (sym was) (of-taken mid t ts x.key)))

@@ -9,7 +9,6 @@ use Rattle.usb_device_endpoint.specs.Handles.{Stands}
 use Rattle.usb_device_endpoint.specs.Closes.{all_discarded}
 use Rattle.usb_device_host.specs.HostState.{HostState}
 use Rattle.usb_device_host.specs.HostBus.{bus_of}
-use Rattle.usb_device_host.specs.HostFrames.{LineGoesOn}
 use Rattle.usb_device_host.specs.HostCalls.{host_discarded, host_calls}
 use Rattle.usb_io.specs.Readers.{ReaderState, with_read, without_end, is_end}
 use Rattle.usb_io.specs.Along.{ReadsAlong}
@@ -30,7 +29,8 @@ use Rattle.usb_session_calls.proofs.NameLemmas.{change_named-none}
 use Rattle.usb_session_calls.specs.State.{State, Reader, tickets_of, with_host}
 use Rattle.usb_session_calls.specs.Readers.{taken_by_call, called, with_count, num_on, with_timeout, timeout_on, with_none, cancel_reader_on}
 use Rattle.usb_session_streams.specs.Needs.{bars_need}
-use Rattle.usb_session_streams.specs.ReaderCalls.{given_by}
+use Rattle.usb_session_streams.specs.ReaderCalls.{given_by, ReaderGoesOn}
+use Rattle.usb_session_streams.proofs.AccountLemmas.{of-same}
 use Rattle.usb_session_calls.specs.Reads.{need_of, bars_read, consumed_with, is_until_short, polled_given_line, read_on, fill_on, read_off, consume_on, consume_end_on}
 use Rattle.usb_session_calls.specs.Answer.{Answer, answer_with, condition_answer, ok_answer}
 use Rattle.usb_session_calls.specs.Answered.{Answered}
@@ -41,15 +41,16 @@ use Rattle.usb_session_calls.proofs.Called.{represents-reader}
 use Rattle.usb_session_calls.proofs.LentHosts.{line-same}
 
 -- what a call keeps
-pub keeps-along : (old new : HostState) (x y : EndpointState) → LineGoesOn old new → ReadsAlong (bus_of old) (bus_of new) x y → CallKeeps old new x y
-keeps-along old new x y line goes =
+pub keeps-along : (old new : Reading HostState) → ReaderGoesOn old new → ReadsAlong (bus_of old.bus) (bus_of new.bus) old.reader.endpoint new.reader.endpoint → Stands (bus_of old.bus) old.reader.endpoint → CallKeeps old.bus new.bus old.reader.endpoint new.reader.endpoint
+keeps-along old new on goes was =
     record {
-      line = line;
+      line = on.line;
       past = goes.goes_on.past;
       stands = goes.stands;
       others = goes.others;
       key = ap (λ (h : EndpointState). h.key) goes.endpoint;
       maximum = ap (λ (h : EndpointState). h.maximum) goes.endpoint;
+      accounts = on.accounts was.key_is_open;
     }
 
 -- an answer of a call of a reader (at): the reader is changed, to one that calls see so (y), the host goes on, and this line is told
@@ -156,6 +157,7 @@ keeps-rest host x y stands same =
       others = record { tickets = λ t k apart is. is; keys = λ k apart is. is };
       key = refl;
       maximum = refl;
+      accounts = of-same host x.key x.pending;
     })
 
 -- a poll that is not pending is told as what waits is

@@ -9,11 +9,13 @@ use Rattle.usb_device_host.specs.HostState.{HostState}
 use Rattle.usb_device_host.specs.HostBus.{bus_of}
 use Rattle.usb_device.specs.HandleStates.{InterfaceState, StandsDevice, StandsInterface}
 use Rattle.usb_device.specs.DeviceLaws.{DevicesAreHeld}
+use Rattle.usb_session_streams.specs.Accounts.{KeepsAccounts}
 use Rattle.usb_session_calls.specs.Names.{named}
 use Rattle.usb_session_calls.specs.SessionState.{SessionState, IsSound, open_under}
 use Rattle.usb_session_calls.proofs.CountedNames.{counted-same}
 use Rattle.usb_session_calls.proofs.CountedDevices.{CountedDevices}
 use Rattle.usb_session_calls.proofs.NamedKeys.{none-bus, named-goes}
+use Rattle.usb_session_calls.proofs.NamedTickets.{tickets-goes}
 use Rattle.usb_session_calls.proofs.FutureLemmas.{future-same}
 
 -- the device of a handle that stands
@@ -25,8 +27,8 @@ pub stands-held : (h : HostState) (f : InterfaceState) (c : ClaimedInterface) �
 stands-held h f c held at number some = record { claim = c; at = at; number = number; open_handle = some; device = held.there f.key c at some }
 
 pub sound-device : (s : SessionState) (now : HostState) (after : List (Option ℕ)) → IsSound s → now.steps ≡ s.host.steps → now.interfaces ≡ s.host.interfaces → bus_of now ≡ bus_of s.host → length after ≡ length s.devices
-    → ((d key : ℕ) → named after d ≡ Some key → StandsDevice now key) → CountedDevices now.devices after → DevicesAreHeld now → IsSound (record s { host = now; devices = after })
-sound-device s now after sound steps interfaces bus names stand counted held =
+    → ((d key : ℕ) → named after d ≡ Some key → StandsDevice now key) → CountedDevices now.devices after → DevicesAreHeld now → KeepsAccounts s.host now → IsSound (record s { host = now; devices = after })
+sound-device s now after sound steps interfaces bus names stand counted held accounts =
     record {
       idle = steps ∙ sound.idle;
       device_names = names ∙ sound.device_names;
@@ -45,6 +47,9 @@ sound-device s now after sound steps interfaces bus names stand counted held =
       endpoints_small = sound.endpoints_small;
       endpoints_differ = sound.endpoints_differ;
       keys_named = named-goes s.host.endpoints now.endpoints (open_under s) s.futures (none-bus s.host now bus) sound.keys_named;
+      tickets_named = tickets-goes s.host now (open_under s) s.futures accounts sound.tickets_named;
+      tickets_counted = accounts.count sound.tickets_counted;
+      claims_owned = accounts.claims.owned sound.claims_owned;
       future_names = sound.future_names;
       futures_wait = sound.futures_wait;
       futures_stand = λ n f at. future-same s.host now f bus (sound.futures_stand n f at);

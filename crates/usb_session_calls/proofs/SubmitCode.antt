@@ -19,6 +19,10 @@ use Rattle.usb_device_host.proofs.FollowLemmas.{adds-entered}
 use Rattle.usb_device_host.proofs.CallFrames.{keeps-open, keeps-submitted, keeps-refused}
 use Rattle.usb_device_host.proofs.WaitFrames.{line-keeps, line-trans}
 use Rattle.usb_session_text.specs.Calls.{condition_line, ok_line}
+use Rattle.usb_device_endpoint.specs.Handles.{Stands}
+use Rattle.usb_device_host.specs.HostBus.{bus_of}
+use Rattle.usb_session_streams.specs.Accounts.{KeepsAccountsOf}
+use Rattle.usb_session_streams.proofs.AccountLemmas.{of-same, of-is, of-entered}
 use Rattle.usb_session_calls.specs.Names.{change_named}
 use Rattle.usb_session_calls.specs.State.{State, Endpoint, with_host}
 use Rattle.usb_session_calls.specs.Answer.{Answer, condition_answer, ok_answer}
@@ -77,6 +81,12 @@ submit-past (Err back) host now x y b ok err = subst (λ (h : HostState). Extend
 pub submit-same : {X : Type 0} (f : EndpointState → X) (of_others : (z : EndpointState) (ts : List ℕ) → f (record z { pending = ts }) ≡ f z) (r : Result Unit BufferState) (host now : HostState) (x y : EndpointState) (t : ℕ) → OnOk r (y ≡ record x { pending = x.pending ++ t ∷ [] }) → OnErr r ((y ≡ x) × (now ≡ host)) → f y ≡ f x
 submit-same f of_others (Ok done) host now x y t ok err = ap f ok ∙ of_others x (x.pending ++ t ∷ [])
 submit-same f of_others (Err back) host now x y t ok err = ap f err.0
+
+pub submit-accounts : (r : Result Unit BufferState) (host now : HostState) (x y : EndpointState) (b : BufferState) → Stands (bus_of host) x → OnOk r (now ≡ entered host_calls host x b) → OnOk r (y ≡ record x { pending = x.pending ++ length (tickets host.kernel.past) ∷ [] }) → OnErr r ((y ≡ x) × (now ≡ host)) → KeepsAccountsOf host now x.key x.pending y.pending
+submit-accounts (Ok done) host now x y b stands bus pending err =
+    of-is host (entered host_calls host x b) now x.key x.pending (x.pending ++ length (tickets host.kernel.past) ∷ []) y.pending bus (ap (λ (z : EndpointState). z.pending) pending) (of-entered host x b stands.key_is_open)
+submit-accounts (Err back) host now x y b stands bus pending err =
+    of-is host host now x.key x.pending x.pending y.pending err.1 (ap (λ (z : EndpointState). z.pending) err.0) (of-same host x.key x.pending)
 
 -- what holds where a call was not refused
 pub ok-holds : {A B P : Type 0} (r : Result A B) (x : A) → r ≡ Ok x → OnOk r P → P

@@ -1,5 +1,5 @@
 -- What waits and blocking transfers answer.
-use Rattle.std.proofs.Common.{◌≡◌, ℕ, List, [], ◌∷◌, ◌++◌, length, Option, Some, None, Result, Bool, true, false, refl, ap, sym, ◌∙◌, slice_get, String, string_bytes}
+use Rattle.std.proofs.Common.{◌≡◌, ℕ, List, [], ◌∷◌, ◌++◌, length, Option, Some, None, Result, Bool, true, false, refl, ap, sym, ◌∙◌, subst, slice_get, String, string_bytes}
 use Rattle.std.specs.Prelude.{OnOk, if◌then◌else◌}
 use Rattle.std.specs.declared.alloc.Global.{Global}
 use Rattle.std.proofs.lemmas.Option.{none-some}
@@ -21,6 +21,8 @@ use Rattle.usb_device_host.specs.TicketEnds.{host_taken}
 use Rattle.usb_device_host.proofs.WaitFrames.{line-trans, went-waited, went-blocked}
 use Rattle.usb_session_text.specs.Calls.{condition_line}
 use Rattle.usb_session_text.specs.Completions.{waited_line}
+use Rattle.usb_session_streams.specs.Accounts.{KeepsAccountsOf}
+use Rattle.usb_session_streams.proofs.AccountLemmas.{accounts-of, accounts-waited, accounts-blocked, of-then, of-entered}
 use Rattle.usb_session_calls.specs.Names.{change_named}
 use Rattle.usb_session_calls.specs.State.{State, Endpoint}
 use Rattle.usb_session_calls.specs.Answer.{Answer, answer_with, condition_answer}
@@ -28,7 +30,7 @@ use Rattle.usb_session_calls.specs.Waits.{wait_on, wait_ended}
 use Rattle.usb_session_calls.specs.Transfers.{bars_transfer, with_taken, transfer_ended, transfer_on}
 use Rattle.usb_session_calls.specs.OpenCalls.{CallKeeps, CallAnswers}
 use Rattle.usb_session_calls.proofs.PollCode.{some-front}
-use Rattle.usb_session_calls.proofs.Queue.{call-comes, call-told, front_kept, front-answers, polled-goes, polled-past, polled-rest}
+use Rattle.usb_session_calls.proofs.Queue.{call-comes, call-told, front_kept, front-answers, polled-goes, polled-past, polled-rest, polled-accounts}
 use Rattle.usb_session_calls.proofs.SubmitCode.{line-entered, past-entered}
 
 abbrev pub wait : ℕ → State → ℕ → Endpoint → Answer
@@ -64,6 +66,9 @@ wait-keeps r host now x y timeout is stands others =
       others = others;
       key = ap (λ (z : EndpointState). z.key) rest;
       maximum = ap (λ (z : EndpointState). z.maximum) rest;
+      accounts =
+          of-then host mid now x.key x.pending x.pending y.pending (accounts-of host mid x.key x.pending (accounts-waited host (front_of x.pending) timeout))
+          (polled-accounts mid x r now y is);
     }
 
 -- a blocking transfer by the host and by what its calls see of the endpoint
@@ -86,9 +91,9 @@ transfer-barred host x before text result direction b timeout bars printed =
     (λ state e h host_was same. transfer-seen state direction e b timeout h host x true host_was same bars)
 
 -- the completion that was taken is the journal's
-took-is : (mid now : HostState) (x y : EndpointState) (t : ℕ) (ts : List ℕ) (c : Completion) (o : Option Completion) → taken_if host_calls mid x t ts o ≡ front_found (Some c) now y → (o ≡ Some c) × (host_taken mid t ≡ now)
+took-is : (mid now : HostState) (x y : EndpointState) (t : ℕ) (ts : List ℕ) (c : Completion) (o : Option Completion) → taken_if host_calls mid x t ts o ≡ front_found (Some c) now y → (o ≡ Some c) × (host_taken mid t ≡ now) × (ts ≡ y.pending)
 took-is mid now x y t ts c None is = absurd (none-some c (ap (λ (p : Polled HostState). p.completion) is))
-took-is mid now x y t ts c (Some d) is = (ap (λ (p : Polled HostState). p.completion) is, ap (λ (p : Polled HostState). p.bus) is)
+took-is mid now x y t ts c (Some d) is = (ap (λ (p : Polled HostState). p.completion) is, ap (λ (p : Polled HostState). p.bus) is, ap (λ (p : Polled HostState). p.endpoint.pending) is)
 
 -- what is left before it is taken
 abbrev made_by : HostState → EndpointState → BufferState → ℕ → HostState
@@ -110,12 +115,14 @@ transfer-answers host now x y before text result direction b timeout c bars same
       kept_is = same ∙ sym same_y;
     })
 
-pub transfer-keeps : (host now : HostState) (x y : EndpointState) (b : BufferState) (timeout : ℕ) (c : Completion) → transferred host_calls timeout host x b ≡ front_found (Some c) now y → y ≡ x → Stands (bus_of now) y → KeepsOthers (bus_of host) (bus_of now) x.key → CallKeeps host now x y
-transfer-keeps host now x y b timeout c is same stands others =
+pub transfer-keeps : (host now : HostState) (x y : EndpointState) (b : BufferState) (timeout : ℕ) (c : Completion) → transferred host_calls timeout host x b ≡ front_found (Some c) now y → y ≡ x → Stands (bus_of host) x → Stands (bus_of now) y → KeepsOthers (bus_of host) (bus_of now) x.key → CallKeeps host now x y
+transfer-keeps host now x y b timeout c is same was stands others =
     let first = entered host_calls host x b in
     let mid : HostState = made_by host x b timeout in
     let one = record x { pending = count_of host ∷ [] } in
     let went = went-blocked first (count_of host) timeout in
+    let took = took-is mid now one y (count_of host) [] c (transfer_completion mid.kernel.past (count_of host)) is in
+    let none : x.pending ≡ [] = sym (ap (λ (z : EndpointState). z.pending) same) ∙ sym took.2 in
     record {
       line = line-trans host mid now (line-trans host first mid (line-entered host x b) went.line) (polled-goes mid one (Some c) now y is);
       past =
@@ -125,4 +132,7 @@ transfer-keeps host now x y b timeout c is same stands others =
       others = others;
       key = ap (λ (z : EndpointState). z.key) same;
       maximum = ap (λ (z : EndpointState). z.maximum) same;
+      accounts =
+          of-then host first now x.key x.pending one.pending y.pending (subst (λ (l : List ℕ). KeepsAccountsOf host first x.key x.pending (l ++ count_of host ∷ [])) none (of-entered host x b was.key_is_open))
+          (of-then first mid now x.key one.pending one.pending y.pending (accounts-of first mid x.key one.pending (accounts-blocked first (count_of host) timeout)) (polled-accounts mid one (Some c) now y is));
     }

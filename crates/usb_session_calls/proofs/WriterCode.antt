@@ -41,6 +41,7 @@ keeps-writer old new keeps =
       others = keeps.others;
       key = ap (λ (h : EndpointState). h.key) keeps.settings.endpoint;
       maximum = ap (λ (h : EndpointState). h.maximum) keeps.settings.endpoint;
+      accounts = keeps.accounts;
     }
 
 -- an answer of a call of a writer (at): the writer is changed, to one that calls see so (y), the host goes on, and this line is told

@@ -24,6 +24,7 @@ pub mod InterfaceCalls
 pub mod EndpointCalls
 pub mod CalledReaders
 pub mod CalledWriters
+pub mod HeldTickets
 pub mod SessionState
 pub mod SessionParts
 pub mod Relation

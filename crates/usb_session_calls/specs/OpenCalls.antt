@@ -7,6 +7,7 @@ use Rattle.usb_device_endpoint.specs.Handles.{Stands, KeepsOthers}
 use Rattle.usb_device_host.specs.HostState.{HostState}
 use Rattle.usb_device_host.specs.HostBus.{bus_of}
 use Rattle.usb_device_host.specs.HostFrames.{LineGoesOn}
+use Rattle.usb_session_streams.specs.Accounts.{KeepsAccountsOf}
 use Rattle.usb_session_calls.specs.Names.{named, change_named}
 use Rattle.usb_session_calls.specs.State.{State, Endpoint}
 use Rattle.usb_session_calls.specs.Answer.{Answer}
@@ -15,8 +16,8 @@ use Rattle.usb_session_calls.specs.Relation.{Represents}
 use Rattle.usb_session_calls.specs.Answered.{Answered}
 
 -- what is open stays open, steps are taken from the front of the line alone, the journal goes on,
--- the endpoint stands under its key with its maximum packet size, and what endpoints of other keys
--- hold has not ended; x is the endpoint before the call, and y after it
+-- the endpoint stands under its key with its maximum packet size, what endpoints of other keys hold
+-- has not ended, and the accounts are kept; x is the endpoint before the call, and y after it
 pub record CallKeeps (old new : HostState) (x y : EndpointState) : Type 0 where
   pub line : LineGoesOn old new
   pub past : Extends old.kernel.past new.kernel.past
@@ -24,6 +25,7 @@ pub record CallKeeps (old new : HostState) (x y : EndpointState) : Type 0 where
   pub others : KeepsOthers (bus_of old) (bus_of new) x.key
   pub key : y.key ≡ x.key
   pub maximum : y.maximum ≡ x.maximum
+  pub accounts : KeepsAccountsOf old new x.key x.pending y.pending
 
 -- the session with the host and the endpoint that the call left
 abbrev pub with_called : SessionState → ℕ → HostState → EndpointState → SessionState

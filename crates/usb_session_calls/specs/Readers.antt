@@ -1,6 +1,6 @@
 -- `reader`, `inner`, `num`, `timeout`, `cancel` and `close` of a reader. `inner` and `close` are barred where it is not open, and
 -- `reader` where the endpoint isn't, or the reader's name is in use.
-use Rattle.std.specs.Prelude.{ℕ, ◌-◌, ◌||◌, nat_lt, true, List, [], ◌++◌, length, take, Option, Some, None, if◌then◌else◌}
+use Rattle.std.specs.Prelude.{ℕ, ◌-◌, ◌||◌, nat_lt, List, [], ◌++◌, length, take, Option, Some, None, if◌then◌else◌}
 use Rattle.usb_desc.specs.declared.types.Direction.TheVariants.{In}
 use Rattle.usb_device_endpoint.specs.Closes.{all_discarded, after_close}
 use Rattle.usb_device_host.specs.HostState.{HostState}

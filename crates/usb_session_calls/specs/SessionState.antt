@@ -15,8 +15,11 @@ use Rattle.usb_io.specs.Writers.{WriterState}
 use Rattle.usb_device.specs.HandleStates.{InterfaceState, StandsDevice, StandsInterface}
 use Rattle.usb_device.specs.Futures.{FutureState, StandsFuture}
 use Rattle.usb_device.specs.DeviceLaws.{DevicesAreHeld}
+use Rattle.usb_device.specs.OwnerLaws.{ClaimsAreOwned}
+use Rattle.usb_session_streams.specs.Accounts.{TicketsAreCounted}
 use Rattle.usb_session_calls.specs.Names.{named}
 use Rattle.usb_session_calls.specs.EndpointNames.{EndpointName, held_under}
+use Rattle.usb_session_calls.specs.HeldTickets.{TicketsAreNamed}
 
 -- the host, and what is open by the number of its name: the keys of devices, the interfaces, the endpoints, readers and writers as
 -- their calls see them, and the futures; the tree of attributes, and the packets of udev that are left
@@ -69,7 +72,8 @@ KeysAreNamed keys opened futures =
 
 -- between calls no step is left; there are 64 names of each kind; the maximum packet size of an endpoint has 11 bits; what is open under a name stands in the host; a device and an interface have as many open handles as there
 -- are names of them; each device that the host keeps is held; no endpoint and no future is open under two names, and no two of them have one key;
--- a future that is open under a name still has its ticket; and each endpoint that is open at the host is open under a name, or is a future's.
+-- a future that is open under a name still has its ticket; each endpoint that is open at the host is open under a name, or is a future's; so is each ticket that one holds, and
+-- there are as many as in the journal; and the claims of the kernel are those that have an owner.
 -- (In `futures_differ` m and n are numbers of names of futures)
 pub record IsSound (s : SessionState) : Type 0 where
   pub idle : s.host.steps ≡ []
@@ -92,3 +96,6 @@ pub record IsSound (s : SessionState) : Type 0 where
   pub futures_differ : (m n : ℕ) (f g : FutureState) → named s.futures m ≡ Some f → named s.futures n ≡ Some g → m ≢ n → f.key ≢ g.key
   pub futures_apart : (e : EndpointName) (n : ℕ) (h : EndpointState) (f : FutureState) → open_under s e ≡ Some h → named s.futures n ≡ Some f → h.key ≢ f.key
   pub keys_named : KeysAreNamed s.host.endpoints (open_under s) s.futures
+  pub tickets_named : TicketsAreNamed (λ (h : EndpointState). h) s.host.tickets (open_under s) s.futures
+  pub tickets_counted : TicketsAreCounted s.host
+  pub claims_owned : ClaimsAreOwned s.host

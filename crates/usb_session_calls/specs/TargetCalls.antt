@@ -21,6 +21,7 @@ use Rattle.usb_device.specs.Futures.{FutureState, fresh_future}
 use Rattle.usb_script_words.specs.declared.control.ControlTarget.{ControlTarget}
 use Rattle.usb_script_words.specs.declared.control.ControlTarget.TheVariants.{Device, Interface}
 use Rattle.usb_session_text.specs.Calls.{condition_line}
+use Rattle.usb_session_streams.specs.Accounts.{KeepsAccounts}
 use Rattle.usb_session_calls.specs.Names.{named}
 use Rattle.usb_session_calls.specs.Controls.{bars_control}
 
@@ -39,7 +40,7 @@ number_of_target h devices interfaces (Interface i) =
     option_map (λ (c : ClaimedInterface). c.device) (option_and_then (λ (f : InterfaceState). value_at h.interfaces f.key) (named interfaces i))
 
 -- steps are taken from the front of the line alone, each of which used a place of the kernel; the journal goes on, what stands
--- stays, and no endpoint is open that wasn't open before
+-- stays, no endpoint is open that wasn't open before, and the accounts are kept
 pub record KeepsHandles (old new : HostState) : Type 0 where
   pub front : List KernelStep
   pub steps : old.steps ≡ front ++ new.steps
@@ -49,6 +50,7 @@ pub record KeepsHandles (old new : HostState) : Type 0 where
   pub past : Extends old.kernel.past new.kernel.past
   pub stands : (h : EndpointState) → Stands (bus_of old) h → Stands (bus_of new) h
   pub opened : (key : ℕ) → key_at new.endpoints key ≡ true → key_at old.endpoints key ≡ true
+  pub accounts : KeepsAccounts old new
 
 -- the host behind a call on the device of a number, where it is open and the call is not barred
 abbrev pub called_host : (HostState → ℕ → HostState) → HostState → Option ℕ → HostState

@@ -4,12 +4,12 @@ ghost use Rattle.std.specs.Borrow.{sem};
 ghost use Rattle.std.specs.Io.BufRead.{Rests};
 ghost use Rattle.usb_device_endpoint.specs.Handles.{Stands};
 ghost use Rattle.usb_device_host.specs.HostBus.{bus_of};
-ghost use Rattle.usb_device_host.specs.HostFrames.{LineGoesOn};
 ghost use Rattle.usb_device_host.specs.HostCalls.{host_calls};
 ghost use Rattle.usb_io.specs.Along.{ReadsAlong};
 ghost use Rattle.usb_io.specs.Reads.{reading, KeepsSettings};
 ghost use Rattle.usb_io.specs.contracts.reader.EndpointRead.{the_row};
 ghost use Rattle.usb_io.specs.Lent.{Filled, PollFilled};
+ghost use Rattle.usb_session_streams.specs.ReaderCalls.{ReaderGoesOn};
 ghost use Rattle.usb_session_streams.specs.Reads.{buffer_line};
 ghost use Rattle.usb_session_calls.specs.Reads.{is_until_short, given_line, polled_given_line, fill_on};
 ghost use Rattle.usb_session_calls.specs.OpenCalls.{CallKeeps};
@@ -36,7 +36,7 @@ fn fill_bytes<'a, T: BulkOrInterrupt>(
         (Rests (the_row T.row T.EndpointType) reader.entry
         (λ new. Filled host_calls (is_until_short framing) reader.old.timeout
         (reading host.old reader.old) (reading host.new new) result
-        × LineGoesOn host.old host.new
+        × ReaderGoesOn (reading host.old reader.old) (reading host.new new)
         × ReadsAlong (bus_of host.old) (bus_of host.new) reader.old.endpoint new.endpoint
         × KeepsSettings reader.old new)) }
 {
@@ -83,7 +83,7 @@ fn poll_fill_bytes<'a, T: BulkOrInterrupt>(
         (Rests (the_row T.row T.EndpointType) reader.entry
         (λ new. PollFilled host_calls (is_until_short framing)
         (reading host.old reader.old) (reading host.new new) result
-        × LineGoesOn host.old host.new
+        × ReaderGoesOn (reading host.old reader.old) (reading host.new new)
         × ReadsAlong (bus_of host.old) (bus_of host.new) reader.old.endpoint new.endpoint
         × KeepsSettings reader.old new)) }
 {

@@ -3,12 +3,12 @@
 ghost use Rattle.std.specs.Prelude.{◌≡◌, ◌≤◌, take, length, Ok, IfOk, IfErr};
 ghost use Rattle.usb_device_endpoint.specs.Handles.{Stands};
 ghost use Rattle.usb_device_host.specs.HostBus.{bus_of};
-ghost use Rattle.usb_device_host.specs.HostFrames.{LineGoesOn};
 ghost use Rattle.usb_device_host.specs.HostCalls.{host_calls};
 ghost use Rattle.usb_io.specs.Answers.{read_came, ReadFails};
 ghost use Rattle.usb_io.specs.Along.{ReadsAlong};
 ghost use Rattle.usb_io.specs.Reads.{reading};
 ghost use Rattle.usb_io.specs.Answered.{answered, as_wait, InTime};
+ghost use Rattle.usb_session_streams.specs.ReaderCalls.{ReaderGoesOn};
 ghost use Rattle.usb_session_streams.specs.Reads.{read_line};
 ghost use Rattle.usb_session_streams.specs.Needs.{bars_need};
 ghost use Rattle.usb_session_calls.specs.Reads.{is_until_short, need_of, given_line, polled_given_line, read_on};
@@ -60,7 +60,7 @@ fn read_bytes(
         (ReadFails host_calls (is_until_short framing) reader.old.timeout
         (length dest.old) (reading host.old reader.old)
         (reading host.new reader.new)) }
-    ensures line { LineGoesOn host.old host.new }
+    ensures goes_on { ReaderGoesOn (reading host.old reader.old) (reading host.new reader.new) }
     ensures goes { ReadsAlong (bus_of host.old) (bus_of host.new) reader.old.endpoint
         reader.new.endpoint }
 {
@@ -115,7 +115,7 @@ fn poll_bytes(
         (ReadFails host_calls (is_until_short framing) 0 (length dest.old)
         (reading host.old reader.old) (reading host.new reader.new)) }
     ensures in_time { InTime ReadFault.TimedOut result }
-    ensures line { LineGoesOn host.old host.new }
+    ensures goes_on { ReaderGoesOn (reading host.old reader.old) (reading host.new reader.new) }
     ensures goes { ReadsAlong (bus_of host.old) (bus_of host.new) reader.old.endpoint
         reader.new.endpoint }
 {

@@ -1,3 +1,4 @@
+pub mod AccountLemmas
 pub mod LinesGoOn
 pub mod ReadsGoOn
 pub mod TicketsCome

@@ -1,13 +1,13 @@
 -- Calls on a reader take steps from the front of the line, and keep what is open.
-use Rattle.std.proofs.Common.{◌∙◌, ◌≡◌, ℕ, arith, Bool, List, [], length, Result, Ok, Err, refl, ap, subst, sym, false}
+use Rattle.std.proofs.Common.{◌∙◌, ◌≡◌, ℕ, Bool, List, [], ◌∷◌, Result, Ok, Err, refl, ap, subst, sym, false}
 use Rattle.std.specs.Prelude.{IfOk, IfErr, OnOk, OnErr}
 use Rattle.std.specs.Borrow.{Bor}
 use Rattle.usb_desc.specs.declared.error.Fail.{Fail}
 use Rattle.usb_desc.specs.declared.error.NoMemory.{NoMemory}
-use Rattle.usb_kernel.specs.Tickets.{tickets}
 use Rattle.usb_kernel.proofs.Extends.{extends-same, extends-trans}
 use Rattle.usb_xfer.specs.declared.transfer.Completion.{Completion}
 use Rattle.usb_device_endpoint.specs.EndpointState.{EndpointState}
+use Rattle.usb_device_endpoint.specs.Submits.{entered}
 use Rattle.usb_device_endpoint.specs.Waits.{waited}
 use Rattle.usb_device_host.specs.HostState.{HostState}
 use Rattle.usb_device_host.specs.HostCalls.{host_calls}
@@ -18,20 +18,29 @@ use Rattle.usb_device_host.proofs.CountLemmas.{entered-count, waited-count, take
 use Rattle.usb_device_host.proofs.FollowLemmas.{adds-entered, taken-past}
 use Rattle.usb_device_host.proofs.WaitFrames.{line-keeps, line-trans, went-waited}
 use Rattle.usb_io.specs.Readers.{ReaderState, fresh_buffer, with_taken}
-use Rattle.usb_io.specs.Reads.{Reading, reading, KeepsSettings, ended_off, submit_one, filled_to, FilledShort}
+use Rattle.usb_io.specs.Reads.{Reading, reading, KeepsSettings, pending_of, ended_off, submit_one, filled_to, FilledShort}
 use Rattle.usb_io.specs.Answered.{answered}
 use Rattle.usb_io.specs.Answers.{fill_came, read_came, ReadFails}
 use Rattle.usb_io.specs.Lent.{Filled}
 use Rattle.usb_io.specs.declared.fault.ReadFault.{ReadFault}
 use Rattle.usb_io.proofs.ReadKeeps.{Keeps, KeepsRead, fill-keeps, read-keeps, filled-keeps, filled_short-keeps, read_answer-keeps, fill_answer-keeps}
 use Rattle.usb_session_streams.specs.ReaderCalls.{Fill, Read, Submit, ReaderGoesOn, ReaderCallsGoOn}
+use Rattle.usb_session_streams.specs.Accounts.{TicketsAreCounted, KeepsAccountsOf}
+use Rattle.usb_session_streams.proofs.AccountLemmas.{counted-kept, counted-more, accounts-of, accounts-waited, of-same, of-on, of-entered, of-taken}
 use Rattle.usb_session_streams.proofs.LinesGoOn.{line-same, line-one}
 
 settings-same : (r : ReaderState) → KeepsSettings r r
 settings-same r = record { n = refl; size = refl; timeout = refl }
 
 call-same : (w : Reading HostState) → ReaderGoesOn w w
-call-same w = record { line = line-same w.bus; past = extends-same w.bus.kernel.past; endpoint = refl; settings = settings-same w.reader }
+call-same w =
+    record {
+      line = line-same w.bus;
+      past = extends-same w.bus.kernel.past;
+      endpoint = refl;
+      settings = settings-same w.reader;
+      accounts = λ open_. of-same w.bus w.reader.endpoint.key (pending_of w);
+    }
 
 pub call-trans : (a b c : Reading HostState) → ReaderGoesOn a b → ReaderGoesOn b c → ReaderGoesOn a c
 call-trans a b c first second =
@@ -40,35 +49,68 @@ call-trans a b c first second =
       past = extends-trans a.bus.kernel.past b.bus.kernel.past c.bus.kernel.past first.past second.past;
       endpoint = second.endpoint ∙ ap (λ (e : EndpointState). record e { pending = c.reader.endpoint.pending }) first.endpoint;
       settings = record { n = second.settings.n ∙ first.settings.n; size = second.settings.size ∙ first.settings.size; timeout = second.settings.timeout ∙ first.settings.timeout };
+      accounts = λ open_. of-on a.bus b.bus c.bus a.reader.endpoint.key b.reader.endpoint.key (pending_of a) (pending_of b) (pending_of c) (ap (λ (e : EndpointState). e.key) first.endpoint) first.line open_ (first.accounts open_) second.accounts;
     }
 
 call-one : (w : Reading HostState) → ReaderGoesOn w (submit_one host_calls w)
-call-one w = record { line = line-one w; past = (adds-entered w.bus w.reader.endpoint (fresh_buffer w.reader.size)).goes.past; endpoint = refl; settings = record { n = refl; size = refl; timeout = refl } }
+call-one w =
+    let b = fresh_buffer w.reader.size in
+    record {
+      line = line-one w;
+      past = (adds-entered w.bus w.reader.endpoint b).goes.past;
+      endpoint = refl;
+      settings = record { n = refl; size = refl; timeout = refl };
+      accounts = λ open_. of-entered w.bus w.reader.endpoint b open_;
+    }
 
 call-waited : (w : Reading HostState) (front timeout : ℕ) → ReaderGoesOn w (reading (waited host_calls front timeout w.bus) w.reader)
-call-waited w front timeout = let went = went-waited w.bus front timeout in record { line = went.line; past = went.later.past; endpoint = refl; settings = settings-same w.reader }
+call-waited w front timeout =
+    let went = went-waited w.bus front timeout in
+    record {
+      line = went.line;
+      past = went.later.past;
+      endpoint = refl;
+      settings = settings-same w.reader;
+      accounts = λ open_. accounts-of w.bus (waited host_calls front timeout w.bus) w.reader.endpoint.key (pending_of w) (accounts-waited w.bus front timeout);
+    }
 
-call-taken : (w : Reading HostState) (front : ℕ) (others : List ℕ) (c : Completion) → ReaderGoesOn w (reading (host_taken w.bus front) (with_taken c others w.reader))
-call-taken w front others c =
+call-taken : (w : Reading HostState) (front : ℕ) (others : List ℕ) (c : Completion) → pending_of w ≡ front ∷ others → ReaderGoesOn w (reading (host_taken w.bus front) (with_taken c others w.reader))
+call-taken w front others c was =
     record {
       line = line-keeps w.bus (host_taken w.bus front) (keeps-taken w.bus front);
       past = record { more = []; is = taken-past w.bus front };
       endpoint = refl;
       settings = record { n = refl; size = refl; timeout = refl };
+      accounts = λ open_.
+          subst (λ (ts : List ℕ). KeepsAccountsOf w.bus (host_taken w.bus front) w.reader.endpoint.key ts others) (sym was) (of-taken w.bus front others w.reader.endpoint.key);
     }
 
 call-off : (w : Reading HostState) → ReaderGoesOn w (ended_off w)
-call-off w = record { line = line-same w.bus; past = extends-same w.bus.kernel.past; endpoint = refl; settings = record { n = refl; size = refl; timeout = refl } }
+call-off w =
+    record {
+      line = line-same w.bus;
+      past = extends-same w.bus.kernel.past;
+      endpoint = refl;
+      settings = record { n = refl; size = refl; timeout = refl };
+      accounts = λ open_. of-same w.bus w.reader.endpoint.key (pending_of w);
+    }
 
 call-read : (first : Reading HostState) → KeepsRead (ReaderGoesOn first)
-call-read first w n so_far = record { line = so_far.line; past = so_far.past; endpoint = so_far.endpoint; settings = record { n = so_far.settings.n; size = so_far.settings.size; timeout = so_far.settings.timeout } }
+call-read first w n so_far =
+    record {
+      line = so_far.line;
+      past = so_far.past;
+      endpoint = so_far.endpoint;
+      settings = record { n = so_far.settings.n; size = so_far.settings.size; timeout = so_far.settings.timeout };
+      accounts = so_far.accounts;
+    }
 
 call-kept : (us : Bool) (timeout : ℕ) (first : Reading HostState) → Keeps host_calls us timeout (ReaderGoesOn first)
 call-kept us timeout first = record {
   submission = λ w so_far. call-trans first w (submit_one host_calls w) so_far (call-one w);
   end = λ w goes so_far. call-trans first w (ended_off w) so_far (call-off w);
   wait = λ w front others was so_far. call-trans first w (reading (waited host_calls front timeout w.bus) w.reader) so_far (call-waited w front timeout);
-  taking = λ w front others c was goes come so_far. call-trans first w (reading (host_taken w.bus front) (with_taken c others w.reader)) so_far (call-taken w front others c);
+  taking = λ w front others c was goes come so_far. call-trans first w (reading (host_taken w.bus front) (with_taken c others w.reader)) so_far (call-taken w front others c was);
 }
 
 pub fill_goes_on : (us : Bool) (timeout : ℕ) (w : Reading HostState) → ReaderGoesOn w (fill_came host_calls us timeout w).left
@@ -85,30 +127,30 @@ reader_calls-go_on (Fill us timeout) w = fill_goes_on us timeout w
 reader_calls-go_on (Read us timeout most) w = read_goes_on us timeout most w
 reader_calls-go_on (Submit goal) w = submissions_go_on goal w
 
--- so the line goes on, whatever a call answered (a poll is a wait of no time)
+-- so it is whatever a call answered (a poll is a wait of no time)
 module _ (us : Bool) (old new : Reading HostState) where
-  pub read-line : (timeout most : ℕ) (bytes : ℕ → List ℕ) (r : Result ℕ (Fail ReadFault))
-      → IfOk r (λ n. read_came host_calls us timeout most old ≡ answered (Ok (bytes n)) new) → IfErr r (ReadFails host_calls us timeout most old new) → LineGoesOn old.bus new.bus
-  read-line timeout most bytes r is failed = (read_answer-keeps host_calls us timeout (ReaderGoesOn old) (call-kept us timeout old) most old new bytes r (call-read old) is failed (call-same old)).line
+  pub read-goes : (timeout most : ℕ) (bytes : ℕ → List ℕ) (r : Result ℕ (Fail ReadFault))
+      → IfOk r (λ n. read_came host_calls us timeout most old ≡ answered (Ok (bytes n)) new) → IfErr r (ReadFails host_calls us timeout most old new) → ReaderGoesOn old new
+  read-goes timeout most bytes r is failed = read_answer-keeps host_calls us timeout (ReaderGoesOn old) (call-kept us timeout old) most old new bytes r (call-read old) is failed (call-same old)
 
-  pub fill-line : (timeout : ℕ) (r : Result (Bor (List ℕ)) (Fail ReadFault)) → Filled host_calls us timeout old new r → LineGoesOn old.bus new.bus
-  fill-line timeout r filled = (fill_answer-keeps host_calls us timeout (ReaderGoesOn old) (call-kept us timeout old) old new r filled (call-same old)).line
+  pub fill-goes : (timeout : ℕ) (r : Result (Bor (List ℕ)) (Fail ReadFault)) → Filled host_calls us timeout old new r → ReaderGoesOn old new
+  fill-goes timeout r filled = fill_answer-keeps host_calls us timeout (ReaderGoesOn old) (call-kept us timeout old) old new r filled (call-same old)
 
 -- and over submissions
-pub num-line : (r : Result Unit NoMemory) (goal : ℕ) (old new : Reading HostState) → OnOk r (new ≡ filled_to host_calls goal old) → OnErr r (FilledShort host_calls goal old new) → LineGoesOn old.bus new.bus
-num-line (Ok u) goal old new ok err = subst (λ (w : Reading HostState). LineGoesOn old.bus w.bus) (sym ok) (submissions_go_on goal old).line
-num-line (Err e) goal old new ok err = (filled_short-keeps host_calls false 0 (ReaderGoesOn old) (call-kept false 0 old) goal old new err (call-same old)).line
+pub num-goes : (r : Result Unit NoMemory) (goal : ℕ) (old new : Reading HostState) → OnOk r (new ≡ filled_to host_calls goal old) → OnErr r (FilledShort host_calls goal old new) → ReaderGoesOn old new
+num-goes (Ok u) goal old new ok err = subst (ReaderGoesOn old) (sym ok) (submissions_go_on goal old)
+num-goes (Err e) goal old new ok err = filled_short-keeps host_calls false 0 (ReaderGoesOn old) (call-kept false 0 old) goal old new err (call-same old)
 
 -- a host has as many tickets as its journal
 abbrev pub IsCounted : Reading HostState → Type 0
-IsCounted w = length w.bus.tickets ≡ length (tickets w.bus.kernel.past)
+IsCounted w = TicketsAreCounted w.bus
 
 count-kept : (us : Bool) (timeout : ℕ) → Keeps host_calls us timeout IsCounted
 count-kept us timeout = record {
-  submission = λ w so_far. let one = entered-count w.bus w.reader.endpoint (fresh_buffer w.reader.size) in omega (arith, one.count, one.past, so_far);
+  submission = λ w so_far. let b = fresh_buffer w.reader.size in counted-more w.bus (entered host_calls w.bus w.reader.endpoint b) (entered-count w.bus w.reader.endpoint b) so_far;
   end = λ w goes so_far. so_far;
-  wait = λ w front others was so_far. let same = waited-count w.bus front timeout in omega (arith, same.count, same.past, so_far);
-  taking = λ w front others c was goes come so_far. let same = taken-count w.bus front in omega (arith, same.count, same.past, so_far);
+  wait = λ w front others was so_far. counted-kept w.bus (waited host_calls front timeout w.bus) (waited-count w.bus front timeout) so_far;
+  taking = λ w front others c was goes come so_far. counted-kept w.bus (host_taken w.bus front) (taken-count w.bus front) so_far;
 }
 
 pub fill-count : (us : Bool) (timeout : ℕ) (w : Reading HostState) → IsCounted w → IsCounted (fill_came host_calls us timeout w).left

@@ -177,7 +177,7 @@ pub moves-taken : (w : Writing HostState) (front : ℕ) (others : List ℕ) (c :
 moves-taken w front others c was come =
     let v = writing (host_taken w.bus front) (with_taken c others w.writer) in
     let here : transfer_completion v.bus.kernel.past front ≡ Some c = ap (λ (past : List Event). transfer_completion past front) (taken-past w.bus front) ∙ come in
-    moves-on w v (front ∷ []) (failures_in c.status) (call-taken w front others c) (taken-count w.bus front).past was
+    moves-on w v (front ∷ []) (failures_in c.status) (call-taken w front others c was) (taken-count w.bus front).past was
     (All-cons (IsComplete v.bus.kernel.past) front [] (ap (λ (o : Option Completion). is_some o) here) (All-nil (IsComplete v.bus.kernel.past)))
     (ap (λ (o : Option Completion). cons_option (option_and_then (λ (d : Completion). failure_in d.status) o) []) here)
 

@@ -1,8 +1,7 @@
 -- Calls on a writer take steps from the front of the line, and keep what is open.
-use Rattle.std.proofs.Common.{◌∙◌, ◌≡◌, ℕ, arith, Bool, true, false, List, [], length, Option, refl, ap}
+use Rattle.std.proofs.Common.{◌∙◌, ◌≡◌, ℕ, Bool, true, false, List, [], ◌∷◌, Option, refl, ap, sym, subst}
 use Rattle.usb_xfer.specs.BufferState.{BufferState}
 use Rattle.usb_xfer.specs.declared.transfer.Completion.{Completion}
-use Rattle.usb_kernel.specs.Tickets.{tickets}
 use Rattle.usb_kernel.proofs.Extends.{extends-same, extends-trans}
 use Rattle.usb_device_endpoint.specs.EndpointState.{EndpointState, route_of}
 use Rattle.usb_device_endpoint.specs.Waits.{waited}
@@ -19,7 +18,9 @@ use Rattle.usb_device_host.proofs.WaitFrames.{line-keeps, line-trans, went-waite
 use Rattle.usb_io.specs.Writers.{WriterState, Writing, writing, not_begun, send, with_taken, KeepsWriter}
 use Rattle.usb_io.specs.WriteAnswers.{write_drained, write_came, flush_came, flush_end_came, poll_flush_end_came, submit_came, submit_end_came}
 use Rattle.usb_session_streams.specs.Told.{Write, FlushAll, FlushEnd, PollFlushEnd, Submit, SubmitEnd}
+use Rattle.usb_session_streams.specs.Accounts.{TicketsAreCounted, KeepsAccountsOf}
 use Rattle.usb_session_streams.specs.WriterCalls.{WriterGoesOn, WriterCallsGoOn}
+use Rattle.usb_session_streams.proofs.AccountLemmas.{counted-kept, counted-more, accounts-of, accounts-waited, of-same, of-on, of-entered, of-taken}
 use Rattle.usb_session_streams.proofs.WritesKeep.{with_set, Keeps, submit-keeps, submit_end-keeps, write_drained-keeps, write-keeps, flush-keeps, flush_end-keeps, poll_flush_end-keeps}
 
 keeps-same : (w : WriterState) → KeepsWriter w w
@@ -29,7 +30,13 @@ pub line-same : (h : HostState) → LineGoesOn h h
 line-same h = line-keeps h h (keeps-open h)
 
 pub call-same : (w : Writing HostState) → WriterGoesOn w w
-call-same w = record { line = line-same w.bus; past = extends-same w.bus.kernel.past; settings = keeps-same w.writer }
+call-same w =
+    record {
+      line = line-same w.bus;
+      past = extends-same w.bus.kernel.past;
+      settings = keeps-same w.writer;
+      accounts = λ open_. of-same w.bus w.writer.endpoint.key w.writer.endpoint.pending;
+    }
 
 pub call-trans : (a b c : Writing HostState) → WriterGoesOn a b → WriterGoesOn b c → WriterGoesOn a c
 call-trans a b c first second =
@@ -42,10 +49,17 @@ call-trans a b c first second =
         timeout = second.settings.timeout ∙ first.settings.timeout;
         endpoint = second.settings.endpoint ∙ ap (λ (e : EndpointState). record e { pending = c.writer.endpoint.pending }) first.settings.endpoint;
       };
+      accounts = λ open_. of-on a.bus b.bus c.bus a.writer.endpoint.key b.writer.endpoint.key a.writer.endpoint.pending b.writer.endpoint.pending c.writer.endpoint.pending (ap (λ (e : EndpointState). e.key) first.settings.endpoint) first.line open_ (first.accounts open_) second.accounts;
     }
 
 pub call-set : (w : Writing HostState) (buffer : Option (List ℕ)) (begun : Bool) → WriterGoesOn w (with_set buffer begun w)
-call-set w buffer begun = record { line = line-same w.bus; past = extends-same w.bus.kernel.past; settings = record { n = refl; size = refl; timeout = refl; endpoint = refl } }
+call-set w buffer begun =
+    record {
+      line = line-same w.bus;
+      past = extends-same w.bus.kernel.past;
+      settings = record { n = refl; size = refl; timeout = refl; endpoint = refl };
+      accounts = λ open_. of-same w.bus w.writer.endpoint.key w.writer.endpoint.pending;
+    }
 
 pub call-not_begun : (w : Writing HostState) → WriterGoesOn w (not_begun w)
 call-not_begun w = call-set w w.writer.buffer false
@@ -60,17 +74,27 @@ call-send w b =
       line = line-keeps w.bus (entered host_calls w.bus w.writer.endpoint b) (keeps-handed w.bus w.writer.endpoint b (is_valid w.writer.endpoint b));
       past = (adds-entered w.bus w.writer.endpoint b).goes.past;
       settings = record { n = refl; size = refl; timeout = refl; endpoint = refl };
+      accounts = λ open_. of-entered w.bus w.writer.endpoint b open_;
     }
 
 pub call-waited : (w : Writing HostState) (front timeout : ℕ) → WriterGoesOn w (writing (waited host_calls front timeout w.bus) w.writer)
-call-waited w front timeout = let went = went-waited w.bus front timeout in record { line = went.line; past = went.later.past; settings = keeps-same w.writer }
+call-waited w front timeout =
+    let went = went-waited w.bus front timeout in
+    record {
+      line = went.line;
+      past = went.later.past;
+      settings = keeps-same w.writer;
+      accounts = λ open_. accounts-of w.bus (waited host_calls front timeout w.bus) w.writer.endpoint.key w.writer.endpoint.pending (accounts-waited w.bus front timeout);
+    }
 
-pub call-taken : (w : Writing HostState) (front : ℕ) (others : List ℕ) (c : Completion) → WriterGoesOn w (writing (host_taken w.bus front) (with_taken c others w.writer))
-call-taken w front others c =
+pub call-taken : (w : Writing HostState) (front : ℕ) (others : List ℕ) (c : Completion) → w.writer.endpoint.pending ≡ front ∷ others → WriterGoesOn w (writing (host_taken w.bus front) (with_taken c others w.writer))
+call-taken w front others c was =
     record {
       line = line-keeps w.bus (host_taken w.bus front) (keeps-taken w.bus front);
       past = record { more = []; is = taken-past w.bus front };
       settings = record { n = refl; size = refl; timeout = refl; endpoint = refl };
+      accounts = λ open_.
+          subst (λ (ts : List ℕ). KeepsAccountsOf w.bus (host_taken w.bus front) w.writer.endpoint.key ts others) (sym was) (of-taken w.bus front others w.writer.endpoint.key);
     }
 
 call-kept : (first : Writing HostState) → Keeps (WriterGoesOn first)
@@ -78,7 +102,7 @@ call-kept first = record {
   set = λ w buffer begun so_far. call-trans first w (with_set buffer begun w) so_far (call-set w buffer begun);
   submission = λ w b so_far. call-trans first w (send host_calls b w) so_far (call-send w b);
   wait = λ w timeout front others was so_far. call-trans first w (writing (waited host_calls front timeout w.bus) w.writer) so_far (call-waited w front timeout);
-  taking = λ w front others c was come so_far. call-trans first w (writing (host_taken w.bus front) (with_taken c others w.writer)) so_far (call-taken w front others c);
+  taking = λ w front others c was come so_far. call-trans first w (writing (host_taken w.bus front) (with_taken c others w.writer)) so_far (call-taken w front others c was);
 }
 
 pub call-write_drained : (timeout : ℕ) (w : Writing HostState) → WriterGoesOn w (write_drained host_calls timeout w).left
@@ -112,14 +136,14 @@ writer_calls-go_on SubmitEnd w = submit_end_goes_on w
 
 -- a host has as many tickets as its journal
 abbrev pub IsCounted : Writing HostState → Type 0
-IsCounted w = length w.bus.tickets ≡ length (tickets w.bus.kernel.past)
+IsCounted w = TicketsAreCounted w.bus
 
 count-kept : Keeps IsCounted
 count-kept = record {
   set = λ w buffer begun so_far. so_far;
-  submission = λ w b so_far. let one = entered-count w.bus w.writer.endpoint b in omega (arith, one.count, one.past, so_far);
-  wait = λ w timeout front others was so_far. let same = waited-count w.bus front timeout in omega (arith, same.count, same.past, so_far);
-  taking = λ w front others c was come so_far. let same = taken-count w.bus front in omega (arith, same.count, same.past, so_far);
+  submission = λ w b so_far. counted-more w.bus (entered host_calls w.bus w.writer.endpoint b) (entered-count w.bus w.writer.endpoint b) so_far;
+  wait = λ w timeout front others was so_far. counted-kept w.bus (waited host_calls front timeout w.bus) (waited-count w.bus front timeout) so_far;
+  taking = λ w front others c was come so_far. counted-kept w.bus (host_taken w.bus front) (taken-count w.bus front) so_far;
 }
 
 pub write-count : (timeout : ℕ) (src : List ℕ) (w : Writing HostState) → IsCounted w → IsCounted (write_came host_calls timeout src w).left

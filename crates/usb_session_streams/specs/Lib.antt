@@ -1,3 +1,4 @@
+pub mod Accounts
 pub mod ReaderCalls
 pub mod WriterCalls
 pub mod ReadNeeds

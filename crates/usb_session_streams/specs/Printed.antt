@@ -12,6 +12,7 @@ use Rattle.usb_io.specs.declared.fault.WriteFault.TheVariants.{TimedOut}
 use Rattle.usb_io.specs.Answered.{Answered, answered}
 use Rattle.usb_session_text.specs.Calls.{ok_line, condition_line}
 use Rattle.usb_session_text.specs.Controls.{pending_line}
+use Rattle.usb_session_streams.specs.Accounts.{KeepsAccountsOf}
 use Rattle.usb_session_streams.specs.Faults.{write_fault_line}
 use Rattle.usb_session_streams.specs.Writes.{wrote_line}
 
@@ -49,11 +50,13 @@ Prints barred line a before after old new result =
     (CameTo barred (line a.answer) a.left (string_bytes before) (string_bytes after) old new)
 
 -- what is open stays open, steps are taken from the front of the line alone, the journal goes on,
--- the writer keeps its settings and stands under its key, and what endpoints of other keys hold has
--- not ended
+-- the writer keeps its settings and stands under its key, what endpoints of other keys hold has not
+-- ended, and the accounts are kept
 pub record CallKeeps (old new : Writing HostState) : Type 0 where
   pub line : LineGoesOn old.bus new.bus
   pub past : Extends old.bus.kernel.past new.bus.kernel.past
   pub settings : KeepsWriter old.writer new.writer
   pub stands : Stands (bus_of new.bus) new.writer.endpoint
   pub others : KeepsOthers (bus_of old.bus) (bus_of new.bus) old.writer.endpoint.key
+  pub accounts : KeepsAccountsOf old.bus new.bus old.writer.endpoint.key
+      old.writer.endpoint.pending new.writer.endpoint.pending

@@ -2,12 +2,14 @@
 use Rattle.std.specs.Prelude.{ℕ, ◌≡◌, Bool, true, false, List, [], Result, Ok, Err, nat_le}
 use Rattle.usb_kernel.specs.Extends.{Extends}
 use Rattle.usb_device_host.specs.HostState.{HostState}
+use Rattle.usb_device_host.specs.HostBus.{key_at}
 use Rattle.usb_device_host.specs.HostCalls.{host_calls}
 use Rattle.usb_device_host.specs.HostFrames.{LineGoesOn}
 use Rattle.usb_io.specs.Answered.{answered}
-use Rattle.usb_io.specs.Reads.{Reading, KeepsSettings, filled_to}
+use Rattle.usb_io.specs.Reads.{Reading, KeepsSettings, pending_of, filled_to}
 use Rattle.usb_io.specs.Answers.{Read as ReadAnswer, fill_came, read_came}
 use Rattle.usb_io.specs.declared.fault.ReadFault.{ReadFault}
+use Rattle.usb_session_streams.specs.Accounts.{KeepsAccountsOf}
 
 -- a call that lends the bytes that stand, and a read of at most so many: of the reader, or until a short packet, with a timeout in
 -- nanoseconds; and submissions until so many are pending
@@ -46,13 +48,16 @@ asks_some (Read until_short timeout most) = nat_le 1 most
 asks_some (Submit goal) = false
 
 -- steps were taken from the front of the line alone, and what is open stays open; the journal went
--- on; the reader has the same endpoint, with other tickets pending, and the same settings
+-- on; the reader has the same endpoint, with other tickets pending, and the same settings; and while
+-- that is open the accounts are kept
 pub record ReaderGoesOn (old new : Reading HostState) : Type 0 where
   pub line : LineGoesOn old.bus new.bus
   pub past : Extends old.bus.kernel.past new.bus.kernel.past
   pub endpoint : new.reader.endpoint
       ≡ record old.reader.endpoint { pending = new.reader.endpoint.pending }
   pub settings : KeepsSettings old.reader new.reader
+  pub accounts : key_at old.bus.endpoints old.reader.endpoint.key ≡ true →
+      KeepsAccountsOf old.bus new.bus old.reader.endpoint.key (pending_of old) (pending_of new)
 
 -- so it is with each call
 abbrev pub ReaderCallsGoOn : Type 0

@@ -4,6 +4,7 @@ use Rattle.usb_kernel.specs.Extends.{Extends}
 use Rattle.usb_device_host.specs.HostState.{HostState}
 use Rattle.usb_device_host.specs.HostFrames.{LineGoesOn}
 use Rattle.usb_device_host.proofs.FollowLemmas.{on-all_discarded}
+use Rattle.usb_session_streams.proofs.AccountLemmas.{accounts-of, accounts-all_discarded, of-is}
 use Rattle.usb_session_calls.proofs.SubmitCode.{cancel-made, line-all_discarded}
 use Rattle.usb_session_calls.proofs.cancelling.cancel_open.Goals as goal
 
@@ -15,6 +16,9 @@ returns-clause-keeps c = record {
   others = c.cancel_all.ensures.others;
   key = ap (λ (h : EndpointState). h.key) c.cancel_all.ensures.rest;
   maximum = ap (λ (h : EndpointState). h.maximum) c.cancel_all.ensures.rest;
+  accounts =
+      of-is _ _ _ _ _ _ _ c.cancel_all.ensures.bus (ap (λ (h : EndpointState). h.pending) c.cancel_all.ensures.rest)
+      (accounts-of _ _ c.args.endpoint.now.key c.args.endpoint.now.pending (accounts-all_discarded c.args.host.now c.args.endpoint.now.pending));
 }
 
 pub returns-clause-answered : goal.returns-clause-answered

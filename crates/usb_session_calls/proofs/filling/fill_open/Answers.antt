@@ -14,7 +14,7 @@ returns-then-bars_read-clause-answered c =
     (sym c.bars_read.ensures.barred ∙ c.if-bars_read.true) c.write_condition.ensures.text
 
 pub returns-in-Ok-clause-keeps : goal.returns-in-Ok-clause-keeps
-returns-in-Ok-clause-keeps c = keeps-along _ _ _ _ c.fill_bytes.follows.holds-at-none.1 c.fill_bytes.follows.holds-at-none.2
+returns-in-Ok-clause-keeps c = keeps-along _ _ c.fill_bytes.follows.holds-at-none.1 c.fill_bytes.follows.holds-at-none.2 c.requires.stands
 
 pub returns-in-Ok-clause-answered : goal.returns-in-Ok-clause-answered
 returns-in-Ok-clause-answered c =
@@ -23,7 +23,7 @@ returns-in-Ok-clause-answered c =
     (rw c.in-Ok.is at c.fill_bytes.follows.holds-at-none.0) c.write_buffer.ensures.text
 
 pub returns-in-Err-Cause-clause-keeps : goal.returns-in-Err-Cause-clause-keeps
-returns-in-Err-Cause-clause-keeps c = keeps-along _ _ _ _ c.fill_bytes.follows.holds-at-none.1 c.fill_bytes.follows.holds-at-none.2
+returns-in-Err-Cause-clause-keeps c = keeps-along _ _ c.fill_bytes.follows.holds-at-none.1 c.fill_bytes.follows.holds-at-none.2 c.requires.stands
 
 pub returns-in-Err-Cause-clause-answered : goal.returns-in-Err-Cause-clause-answered
 returns-in-Err-Cause-clause-answered c =
@@ -32,4 +32,4 @@ returns-in-Err-Cause-clause-answered c =
     (rw (c.in-Err-Cause.is, c.in-Err-Cause.field-0-is) at c.fill_bytes.follows.holds-at-none.0) c.write_read_fault.ensures.text
 
 pub returns-in-Err-Memory-clause-keeps : goal.returns-in-Err-Memory-clause-keeps
-returns-in-Err-Memory-clause-keeps c = keeps-along _ _ _ _ c.fill_bytes.follows.holds-at-none.1 c.fill_bytes.follows.holds-at-none.2
+returns-in-Err-Memory-clause-keeps c = keeps-along _ _ c.fill_bytes.follows.holds-at-none.1 c.fill_bytes.follows.holds-at-none.2 c.requires.stands

@@ -15,7 +15,7 @@ returns-then-bars_read-clause-answered c =
     (sym c.bars_read.ensures.barred ∙ c.if-bars_read.true) c.write_condition.ensures.text
 
 pub returns-in-Ready-Ok-clause-keeps : goal.returns-in-Ready-Ok-clause-keeps
-returns-in-Ready-Ok-clause-keeps c = keeps-along _ _ _ _ c.poll_fill_bytes.follows.holds-at-none.1 c.poll_fill_bytes.follows.holds-at-none.2
+returns-in-Ready-Ok-clause-keeps c = keeps-along _ _ c.poll_fill_bytes.follows.holds-at-none.1 c.poll_fill_bytes.follows.holds-at-none.2 c.requires.stands
 
 pub returns-in-Ready-Ok-clause-answered : goal.returns-in-Ready-Ok-clause-answered
 returns-in-Ready-Ok-clause-answered c =
@@ -24,7 +24,7 @@ returns-in-Ready-Ok-clause-answered c =
     (λ z. 0) (polled_given_line buffer_line) c.args.line.now c.write_buffer.new.out c.write_buffer.result (Ok c.in-Ready-Ok.bytes.now) came.0 c.write_buffer.ensures.text
 
 pub returns-in-Ready-Err-Cause-clause-keeps : goal.returns-in-Ready-Err-Cause-clause-keeps
-returns-in-Ready-Err-Cause-clause-keeps c = keeps-along _ _ _ _ c.poll_fill_bytes.follows.holds-at-none.1 c.poll_fill_bytes.follows.holds-at-none.2
+returns-in-Ready-Err-Cause-clause-keeps c = keeps-along _ _ c.poll_fill_bytes.follows.holds-at-none.1 c.poll_fill_bytes.follows.holds-at-none.2 c.requires.stands
 
 pub returns-in-Ready-Err-Cause-clause-answered : goal.returns-in-Ready-Err-Cause-clause-answered
 returns-in-Ready-Err-Cause-clause-answered c =
@@ -34,10 +34,10 @@ returns-in-Ready-Err-Cause-clause-answered c =
     (printed-in_time buffer_line c.in-Ready-Err-Cause.fault c.args.line.now c.write_read_fault.new.out c.write_read_fault.result came.1 c.write_read_fault.ensures.text)
 
 pub returns-in-Ready-Err-Memory-clause-keeps : goal.returns-in-Ready-Err-Memory-clause-keeps
-returns-in-Ready-Err-Memory-clause-keeps c = keeps-along _ _ _ _ c.poll_fill_bytes.follows.holds-at-none.1 c.poll_fill_bytes.follows.holds-at-none.2
+returns-in-Ready-Err-Memory-clause-keeps c = keeps-along _ _ c.poll_fill_bytes.follows.holds-at-none.1 c.poll_fill_bytes.follows.holds-at-none.2 c.requires.stands
 
 pub returns-in-Pending-clause-keeps : goal.returns-in-Pending-clause-keeps
-returns-in-Pending-clause-keeps c = keeps-along _ _ _ _ c.poll_fill_bytes.follows.holds-at-none.1 c.poll_fill_bytes.follows.holds-at-none.2
+returns-in-Pending-clause-keeps c = keeps-along _ _ c.poll_fill_bytes.follows.holds-at-none.1 c.poll_fill_bytes.follows.holds-at-none.2 c.requires.stands
 
 pub returns-in-Pending-clause-answered : goal.returns-in-Pending-clause-answered
 returns-in-Pending-clause-answered c =

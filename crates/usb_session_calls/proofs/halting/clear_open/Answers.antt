@@ -3,6 +3,7 @@ use Rattle.usb_device_endpoint.specs.EndpointState.{EndpointState}
 use Rattle.usb_kernel.specs.Extends.{Extends}
 use Rattle.usb_device_host.specs.HostState.{HostState}
 use Rattle.usb_device_host.specs.HostFrames.{LineGoesOn}
+use Rattle.usb_session_streams.proofs.AccountLemmas.{accounts-of, accounts-halt, of-is}
 use Rattle.usb_session_calls.proofs.DeviceHosts.{halt-aside}
 use Rattle.usb_session_calls.proofs.HaltCode.{line-halt, halt-made}
 use Rattle.usb_session_calls.proofs.halting.clear_open.Goals as goal
@@ -16,6 +17,9 @@ returns-clause-keeps c =
       others = c.clear_halt.ensures.others;
       key = ap (λ (h : EndpointState). h.key) c.clear_halt.ensures.rest;
       maximum = ap (λ (h : EndpointState). h.maximum) c.clear_halt.ensures.rest;
+      accounts =
+          of-is _ _ _ _ _ _ _ c.clear_halt.ensures.bus (ap (λ (h : EndpointState). h.pending) c.clear_halt.ensures.rest)
+          (accounts-of _ _ x.key x.pending (accounts-halt c.args.host.now x.device x.address));
     }
 
 pub returns-clause-answered : goal.returns-clause-answered

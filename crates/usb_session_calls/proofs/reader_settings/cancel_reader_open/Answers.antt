@@ -4,6 +4,7 @@ use Rattle.usb_device_host.specs.HostState.{HostState}
 use Rattle.usb_device_host.specs.HostFrames.{LineGoesOn}
 use Rattle.usb_device_host.proofs.FollowLemmas.{on-all_discarded}
 use Rattle.usb_io.specs.Readers.{ReaderState}
+use Rattle.usb_session_streams.proofs.AccountLemmas.{accounts-of, accounts-all_discarded, of-is}
 use Rattle.usb_session_calls.proofs.SubmitCode.{line-all_discarded}
 use Rattle.usb_session_calls.proofs.ReaderCode.{reader-cancelled}
 use Rattle.usb_session_calls.proofs.reader_settings.cancel_reader_open.Goals as goal
@@ -18,6 +19,9 @@ returns-clause-keeps c =
       others = c.cancel_all.ensures.others;
       key = ap (λ (z : ReaderState). z.endpoint.key) c.cancel_all.ensures.reader;
       maximum = ap (λ (z : ReaderState). z.endpoint.maximum) c.cancel_all.ensures.reader;
+      accounts =
+          of-is _ _ _ _ _ _ _ c.cancel_all.ensures.bus (ap (λ (z : ReaderState). z.endpoint.pending) c.cancel_all.ensures.reader)
+          (accounts-of _ _ c.args.reader.now.endpoint.key tickets (accounts-all_discarded c.args.host.now tickets));
     }
 
 pub returns-clause-answered : goal.returns-clause-answered

@@ -1,6 +1,6 @@
 use Rattle.std.proofs.Common.{◌-◌, rules, sym, ◌∙◌}
 use Rattle.usb_io.specs.Reads.{reading}
-use Rattle.usb_session_streams.proofs.ReadsGoOn.{num-line}
+use Rattle.usb_session_streams.proofs.ReadsGoOn.{num-goes}
 use Rattle.usb_session_calls.proofs.ReaderCode.{keeps-along, num-barred, num-made, few-count}
 use Rattle.usb_session_calls.proofs.reader_settings.num_open.Goals as goal
 
@@ -14,15 +14,15 @@ set_num_transfers-requires-clause-few c = few-count _ _ (sym c.bars_count.ensure
 
 pub returns-in_err-set_num_transfers-clause-keeps : goal.returns-in_err-set_num_transfers-clause-keeps
 returns-in_err-set_num_transfers-clause-keeps c =
-    keeps-along _ _ _ _
-    (num-line c.set_num_transfers.result (c.args.count - 1) (reading c.args.host.now (record c.args.reader.now { n = c.args.count })) (reading c.set_num_transfers.new.bus c.set_num_transfers.new.self) c.set_num_transfers.ensures.ok c.set_num_transfers.ensures.err)
-    c.set_num_transfers.ensures.goes
+    keeps-along _ _
+    (num-goes c.set_num_transfers.result (c.args.count - 1) (reading c.args.host.now (record c.args.reader.now { n = c.args.count })) (reading c.set_num_transfers.new.bus c.set_num_transfers.new.self) c.set_num_transfers.ensures.ok c.set_num_transfers.ensures.err)
+    c.set_num_transfers.ensures.goes c.requires.stands
 
 pub returns-clause-keeps : goal.returns-clause-keeps
 returns-clause-keeps c =
-    keeps-along _ _ _ _
-    (num-line c.set_num_transfers.result (c.args.count - 1) (reading c.args.host.now (record c.args.reader.now { n = c.args.count })) (reading c.set_num_transfers.new.bus c.set_num_transfers.new.self) c.set_num_transfers.ensures.ok c.set_num_transfers.ensures.err)
-    c.set_num_transfers.ensures.goes
+    keeps-along _ _
+    (num-goes c.set_num_transfers.result (c.args.count - 1) (reading c.args.host.now (record c.args.reader.now { n = c.args.count })) (reading c.set_num_transfers.new.bus c.set_num_transfers.new.self) c.set_num_transfers.ensures.ok c.set_num_transfers.ensures.err)
+    c.set_num_transfers.ensures.goes c.requires.stands
 
 pub returns-clause-answered : goal.returns-clause-answered
 returns-clause-answered c =

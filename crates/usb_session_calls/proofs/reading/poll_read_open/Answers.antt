@@ -18,7 +18,7 @@ returns-then-bars_read-clause-answered c =
     (sym c.bars_read.ensures.barred ∙ c.if-bars_read.true) c.write_condition.ensures.text
 
 pub returns-in-Ready-Ok-clause-keeps : goal.returns-in-Ready-Ok-clause-keeps
-returns-in-Ready-Ok-clause-keeps c = keeps-along _ _ _ _ c.poll_bytes.ensures.line c.poll_bytes.ensures.goes
+returns-in-Ready-Ok-clause-keeps c = keeps-along _ _ c.poll_bytes.ensures.goes_on c.poll_bytes.ensures.goes c.requires.stands
 
 pub returns-in-Ready-Ok-clause-answered : goal.returns-in-Ready-Ok-clause-answered
 returns-in-Ready-Ok-clause-answered c =
@@ -32,7 +32,7 @@ returns-in-Ready-Ok-clause-answered c =
     (subst (λ l. OnOk c.write_read.result (string_bytes c.write_read.new.out ≡ string_bytes c.args.line.now ++ read_line (take c.in-Ready-Ok.count l))) now c.write_read.ensures.text)
 
 pub returns-in-Ready-Err-Cause-clause-keeps : goal.returns-in-Ready-Err-Cause-clause-keeps
-returns-in-Ready-Err-Cause-clause-keeps c = keeps-along _ _ _ _ c.poll_bytes.ensures.line c.poll_bytes.ensures.goes
+returns-in-Ready-Err-Cause-clause-keeps c = keeps-along _ _ c.poll_bytes.ensures.goes_on c.poll_bytes.ensures.goes c.requires.stands
 
 pub returns-in-Ready-Err-Cause-clause-answered : goal.returns-in-Ready-Err-Cause-clause-answered
 returns-in-Ready-Err-Cause-clause-answered c =
@@ -44,10 +44,10 @@ returns-in-Ready-Err-Cause-clause-answered c =
     (printed-in_time read_line c.in-Ready-Err-Cause.fault c.args.line.now c.write_read_fault.new.out c.write_read_fault.result (rw (c.in-Ready-Err-Cause.is, c.in-Ready-Err-Cause.field-0-is, c.in-Ready-Err-Cause.field-0-0-is) at c.poll_bytes.ensures.in_time) c.write_read_fault.ensures.text)
 
 pub returns-in-Ready-Err-Memory-clause-keeps : goal.returns-in-Ready-Err-Memory-clause-keeps
-returns-in-Ready-Err-Memory-clause-keeps c = keeps-along _ _ _ _ c.poll_bytes.ensures.line c.poll_bytes.ensures.goes
+returns-in-Ready-Err-Memory-clause-keeps c = keeps-along _ _ c.poll_bytes.ensures.goes_on c.poll_bytes.ensures.goes c.requires.stands
 
 pub returns-clause-keeps : goal.returns-clause-keeps
-returns-clause-keeps c = keeps-along _ _ _ _ c.poll_bytes.ensures.line c.poll_bytes.ensures.goes
+returns-clause-keeps c = keeps-along _ _ c.poll_bytes.ensures.goes_on c.poll_bytes.ensures.goes c.requires.stands
 
 pub returns-clause-answered : goal.returns-clause-answered
 returns-clause-answered c =

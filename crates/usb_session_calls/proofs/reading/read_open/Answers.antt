@@ -17,7 +17,7 @@ returns-then-bars_read-clause-answered c =
     (sym c.bars_read.ensures.barred ∙ c.if-bars_read.true) c.write_condition.ensures.text
 
 pub returns-in-Ok-clause-keeps : goal.returns-in-Ok-clause-keeps
-returns-in-Ok-clause-keeps c = keeps-along _ _ _ _ c.read_bytes.ensures.line c.read_bytes.ensures.goes
+returns-in-Ok-clause-keeps c = keeps-along _ _ c.read_bytes.ensures.goes_on c.read_bytes.ensures.goes c.requires.stands
 
 pub returns-in-Ok-clause-answered : goal.returns-in-Ok-clause-answered
 returns-in-Ok-clause-answered c =
@@ -30,7 +30,7 @@ returns-in-Ok-clause-answered c =
     (subst (λ l. OnOk c.write_read.result (string_bytes c.write_read.new.out ≡ string_bytes c.args.line.now ++ read_line (take c.in-Ok.count l))) now c.write_read.ensures.text)
 
 pub returns-in-Err-Cause-clause-keeps : goal.returns-in-Err-Cause-clause-keeps
-returns-in-Err-Cause-clause-keeps c = keeps-along _ _ _ _ c.read_bytes.ensures.line c.read_bytes.ensures.goes
+returns-in-Err-Cause-clause-keeps c = keeps-along _ _ c.read_bytes.ensures.goes_on c.read_bytes.ensures.goes c.requires.stands
 
 pub returns-in-Err-Cause-clause-answered : goal.returns-in-Err-Cause-clause-answered
 returns-in-Err-Cause-clause-answered c =
@@ -41,4 +41,4 @@ returns-in-Err-Cause-clause-answered c =
     c.write_read_fault.ensures.text
 
 pub returns-clause-keeps : goal.returns-clause-keeps
-returns-clause-keeps c = keeps-along _ _ _ _ c.read_bytes.ensures.line c.read_bytes.ensures.goes
+returns-clause-keeps c = keeps-along _ _ c.read_bytes.ensures.goes_on c.read_bytes.ensures.goes c.requires.stands

@@ -1,7 +1,7 @@
 use Rattle.std.proofs.Common.{refl, sym, ◌∙◌, length}
 use Rattle.usb_device_endpoint.specs.EndpointState.{EndpointState}
 use Rattle.usb_kernel.specs.Tickets.{tickets}
-use Rattle.usb_session_calls.proofs.SubmitCode.{submit-barred, submit-made, submit-line, submit-past, submit-same, ok-holds}
+use Rattle.usb_session_calls.proofs.SubmitCode.{submit-barred, submit-made, submit-line, submit-past, submit-same, submit-accounts, ok-holds}
 use Rattle.usb_session_calls.proofs.submitting.submit_open.Goals as goal
 use Rattle.usb_session_calls.proofs.submitting.submit_open.Goals.{in-Ok, in-Err}
 
@@ -20,6 +20,7 @@ returns-clause-keeps c =
       stands = c.submit.ensures.stands;
       others = c.submit.ensures.others;
       key = submit-same (λ (z : EndpointState). z.key) (λ z ts. refl) c.submit.result c.args.host.now c.submit.new.bus x y (length (tickets c.args.host.now.kernel.past)) c.submit.ensures.pending c.submit.ensures.err;
+      accounts = submit-accounts c.submit.result c.args.host.now c.submit.new.bus x y c.args.buffer c.requires.stands c.submit.ensures.bus c.submit.ensures.pending c.submit.ensures.err;
       maximum = submit-same (λ (z : EndpointState). z.maximum) (λ z ts. refl) c.submit.result c.args.host.now c.submit.new.bus x y (length (tickets c.args.host.now.kernel.past)) c.submit.ensures.pending c.submit.ensures.err;
     }
 

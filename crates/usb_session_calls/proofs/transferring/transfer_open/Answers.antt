@@ -6,6 +6,7 @@ use Rattle.usb_device_host.specs.HostState.{HostState}
 use Rattle.usb_device_host.specs.HostFrames.{LineGoesOn}
 use Rattle.usb_device_host.proofs.CallFrames.{keeps-open}
 use Rattle.usb_device_host.proofs.WaitFrames.{line-keeps}
+use Rattle.usb_session_streams.proofs.AccountLemmas.{of-same, of-is}
 use Rattle.usb_session_calls.specs.Transfers.{transfer_on}
 use Rattle.usb_session_calls.specs.OpenCalls.{CallAnswers}
 use Rattle.usb_session_calls.proofs.WaitCode.{transfer-barred, transfer-answers, transfer-keeps}
@@ -19,7 +20,7 @@ returns-then-bars_transfer-clause-answered c =
 pub returns-in-Ok-clause-keeps : goal.returns-in-Ok-clause-keeps
 returns-in-Ok-clause-keeps c =
     transfer-keeps c.args.host.now c.transfer_blocking.new.bus c.args.endpoint.now c.transfer_blocking.new.self c.args.buffer c.nanoseconds.result c.in-Ok.completion
-    c.in-Ok.ensures.transferred c.transfer_blocking.ensures.rest c.transfer_blocking.ensures.stands c.transfer_blocking.ensures.others
+    c.in-Ok.ensures.transferred c.transfer_blocking.ensures.rest c.requires.stands c.transfer_blocking.ensures.stands c.transfer_blocking.ensures.others
 
 pub returns-in-Ok-clause-answered : goal.returns-in-Ok-clause-answered
 returns-in-Ok-clause-answered c =
@@ -38,4 +39,7 @@ returns-clause-keeps c = record {
   others = c.transfer_blocking.ensures.others;
   key = ap (λ (h : EndpointState). h.key) c.transfer_blocking.ensures.rest;
   maximum = ap (λ (h : EndpointState). h.maximum) c.transfer_blocking.ensures.rest;
+  accounts =
+      of-is _ _ _ _ _ _ _ c.in-Err.ensures.err (ap (λ (h : EndpointState). h.pending) c.transfer_blocking.ensures.rest)
+      (of-same c.args.host.now c.args.endpoint.now.key c.args.endpoint.now.pending);
 }

@@ -4,10 +4,10 @@ use Rattle.usb_session_streams.proofs.Keeps.{call_keeps}
 use Rattle.usb_session_streams.proofs.flushes.flush.Goals as goal
 
 pub returns-in-Ok-clause-keeps : goal.returns-in-Ok-clause-keeps
-returns-in-Ok-clause-keeps c = call_keeps _ _ (flush-goes c.args.writer.now.timeout (writing c.args.host.now c.args.writer.now) (writing c.flush.new.bus c.flush.new.self) c.flush.result c.flush.ensures.ok c.flush.ensures.failed) c.flush.ensures.goes
+returns-in-Ok-clause-keeps c = call_keeps _ _ c.requires.stands (flush-goes c.args.writer.now.timeout (writing c.args.host.now c.args.writer.now) (writing c.flush.new.bus c.flush.new.self) c.flush.result c.flush.ensures.ok c.flush.ensures.failed) c.flush.ensures.goes
 
 pub returns-in-Err-Cause-clause-keeps : goal.returns-in-Err-Cause-clause-keeps
-returns-in-Err-Cause-clause-keeps c = call_keeps _ _ (flush-goes c.args.writer.now.timeout (writing c.args.host.now c.args.writer.now) (writing c.flush.new.bus c.flush.new.self) c.flush.result c.flush.ensures.ok c.flush.ensures.failed) c.flush.ensures.goes
+returns-in-Err-Cause-clause-keeps c = call_keeps _ _ c.requires.stands (flush-goes c.args.writer.now.timeout (writing c.args.host.now c.args.writer.now) (writing c.flush.new.bus c.flush.new.self) c.flush.result c.flush.ensures.ok c.flush.ensures.failed) c.flush.ensures.goes
 
 pub returns-in-Err-Memory-clause-keeps : goal.returns-in-Err-Memory-clause-keeps
-returns-in-Err-Memory-clause-keeps c = call_keeps _ _ (flush-goes c.args.writer.now.timeout (writing c.args.host.now c.args.writer.now) (writing c.flush.new.bus c.flush.new.self) c.flush.result c.flush.ensures.ok c.flush.ensures.failed) c.flush.ensures.goes
+returns-in-Err-Memory-clause-keeps c = call_keeps _ _ c.requires.stands (flush-goes c.args.writer.now.timeout (writing c.args.host.now c.args.writer.now) (writing c.flush.new.bus c.flush.new.self) c.flush.result c.flush.ensures.ok c.flush.ensures.failed) c.flush.ensures.goes

@@ -6,13 +6,13 @@ use Rattle.usb_session_streams.proofs.Keeps.{call_keeps}
 use Rattle.usb_session_streams.proofs.flushes.poll_flush_end.Goals as goal
 
 pub returns-in-Ready-Ok-clause-keeps : goal.returns-in-Ready-Ok-clause-keeps
-returns-in-Ready-Ok-clause-keeps c = call_keeps _ _ (poll_flush_end-goes (writing c.args.host.now c.args.writer.now) (writing c.poll_flush_end.new.bus c.poll_flush_end.new.self) (as_wait TimedOut c.poll_flush_end.result) c.poll_flush_end.ensures.ok c.poll_flush_end.ensures.failed) c.poll_flush_end.ensures.goes
+returns-in-Ready-Ok-clause-keeps c = call_keeps _ _ c.requires.stands (poll_flush_end-goes (writing c.args.host.now c.args.writer.now) (writing c.poll_flush_end.new.bus c.poll_flush_end.new.self) (as_wait TimedOut c.poll_flush_end.result) c.poll_flush_end.ensures.ok c.poll_flush_end.ensures.failed) c.poll_flush_end.ensures.goes
 
 pub returns-in-Ready-Err-Cause-clause-keeps : goal.returns-in-Ready-Err-Cause-clause-keeps
-returns-in-Ready-Err-Cause-clause-keeps c = call_keeps _ _ (poll_flush_end-goes (writing c.args.host.now c.args.writer.now) (writing c.poll_flush_end.new.bus c.poll_flush_end.new.self) (as_wait TimedOut c.poll_flush_end.result) c.poll_flush_end.ensures.ok c.poll_flush_end.ensures.failed) c.poll_flush_end.ensures.goes
+returns-in-Ready-Err-Cause-clause-keeps c = call_keeps _ _ c.requires.stands (poll_flush_end-goes (writing c.args.host.now c.args.writer.now) (writing c.poll_flush_end.new.bus c.poll_flush_end.new.self) (as_wait TimedOut c.poll_flush_end.result) c.poll_flush_end.ensures.ok c.poll_flush_end.ensures.failed) c.poll_flush_end.ensures.goes
 
 pub returns-in-Ready-Err-Memory-clause-keeps : goal.returns-in-Ready-Err-Memory-clause-keeps
-returns-in-Ready-Err-Memory-clause-keeps c = call_keeps _ _ (poll_flush_end-goes (writing c.args.host.now c.args.writer.now) (writing c.poll_flush_end.new.bus c.poll_flush_end.new.self) (as_wait TimedOut c.poll_flush_end.result) c.poll_flush_end.ensures.ok c.poll_flush_end.ensures.failed) c.poll_flush_end.ensures.goes
+returns-in-Ready-Err-Memory-clause-keeps c = call_keeps _ _ c.requires.stands (poll_flush_end-goes (writing c.args.host.now c.args.writer.now) (writing c.poll_flush_end.new.bus c.poll_flush_end.new.self) (as_wait TimedOut c.poll_flush_end.result) c.poll_flush_end.ensures.ok c.poll_flush_end.ensures.failed) c.poll_flush_end.ensures.goes
 
 pub returns-in-Pending-clause-keeps : goal.returns-in-Pending-clause-keeps
-returns-in-Pending-clause-keeps c = call_keeps _ _ (poll_flush_end-goes (writing c.args.host.now c.args.writer.now) (writing c.poll_flush_end.new.bus c.poll_flush_end.new.self) (as_wait TimedOut c.poll_flush_end.result) c.poll_flush_end.ensures.ok c.poll_flush_end.ensures.failed) c.poll_flush_end.ensures.goes
+returns-in-Pending-clause-keeps c = call_keeps _ _ c.requires.stands (poll_flush_end-goes (writing c.args.host.now c.args.writer.now) (writing c.poll_flush_end.new.bus c.poll_flush_end.new.self) (as_wait TimedOut c.poll_flush_end.result) c.poll_flush_end.ensures.ok c.poll_flush_end.ensures.failed) c.poll_flush_end.ensures.goes
