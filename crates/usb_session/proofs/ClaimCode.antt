@@ -4,13 +4,14 @@ use Rattle.usb_device_tables.specs.History.{value_at}
 use Rattle.usb_desc.specs.declared.error.Fail.{Fail}
 use Rattle.usb_error.specs.ErrorState.{ErrorState}
 use Rattle.usb_session_text.specs.Calls.{ok_line, condition_line, error_line}
+use Rattle.usb_device_endpoint.specs.BusState.{BusState}
 use Rattle.usb_device_ledger.specs.declared.opened.OpenDevice.{OpenDevice}
 use Rattle.usb_device_host.specs.HostState.{HostState}
 use Rattle.usb_device.specs.HandleStates.{InterfaceState}
 use Rattle.usb_device_host.specs.CallErrors.{Leaves}
 use Rattle.usb_device_host.specs.InterfaceClaims.{claim_tried, host_claimed, claimed_key}
 use Rattle.usb_device_host.proofs.Left.{left}
-use Rattle.usb_device_host.proofs.InterfaceFrames.{line-claimed}
+use Rattle.usb_device_host.proofs.InterfaceFrames.{bus-claimed, line-claimed}
 use Rattle.usb_session_calls.specs.Names.{named, is_free, set_name}
 use Rattle.usb_session_calls.specs.State.{State, with_host}
 use Rattle.usb_session.specs.Claims.{claim_answer, claimed_as}
@@ -58,3 +59,7 @@ claim-used s state d key number i reattach o at there used r =
 
 pub claim-spare : {A : Type 0} (h now : HostState) (key number : ℕ) (reattach : Bool) (r : Result A (Fail ErrorState)) → Leaves r now (host_claimed h key number reattach) h → now.kernel.spare ≡ h.kernel.spare
 claim-spare h now key number reattach r is = left (λ (g : HostState). g.kernel.spare ≡ h.kernel.spare) r now (host_claimed h key number reattach) h is (line-claimed h key number reattach).spare refl
+
+pub claim-past : {A : Type 0} (h now : HostState) (key number : ℕ) (reattach : Bool) (r : Result A (Fail ErrorState)) → Leaves r now (host_claimed h key number reattach) h → now.kernel.past ≡ h.kernel.past
+claim-past h now key number reattach r is =
+    left (λ (g : HostState). g.kernel.past ≡ h.kernel.past) r now (host_claimed h key number reattach) h is (ap (λ (b : BusState). b.past) (bus-claimed h key number reattach)) refl

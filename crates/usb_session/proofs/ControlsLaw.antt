@@ -177,14 +177,14 @@ control-runs state (line ∷ items) inv all names =
     }
 
 -- before the first line no future is open
-none-await : (items : List Item) → AllAwait (start items)
+pub none-await : (items : List Item) → AllAwait (start items)
 none-await items n f is = absurd (none-some f (sym (no-future_start items n) ∙ is))
 
 start-futures : (items : List Item) → length (start items).futures ≡ 64
 unfolding start
 start-futures items = length-replicate {A = Option FutureState} 64 None
 
-await-behind : (state : State) (items : List Item) → Inv state → AllAwait state → AllAwait (behind state items)
+pub await-behind : (state : State) (items : List Item) → Inv state → AllAwait state → AllAwait (behind state items)
 await-behind state [] inv all = all
 await-behind state (line ∷ items) inv all = await-behind (answer state line).state items (answer-step state (λ e. []) line inv).inv (line-parting state line inv all).awaits
 

@@ -4,6 +4,8 @@ use Rattle.std.specs.Prelude.{IsSome, if◌then◌else◌}
 use Rattle.std.proofs.lemmas.Option.{same_Some}
 use Rattle.usb_xfer.specs.declared.error.TransferError.{TransferError}
 use Rattle.usb_kernel_devices.specs.declared.step.KernelStep.{KernelStep}
+use Rattle.usb_kernel.specs.Extends.{Extends}
+use Rattle.usb_kernel.proofs.Extends.{extends-same}
 use Rattle.usb_device_ledger.specs.Entries.{control_endpoint}
 use Rattle.usb_device_ledger.proofs.DeviceLemmas.{counts-same}
 use Rattle.usb_xfer.specs.declared.transfer.TransferData.{TransferData}
@@ -31,6 +33,7 @@ use Rattle.usb_session_calls.proofs.ControlCode.{number-is, sound-controlled}
 use Rattle.usb_session_calls.proofs.ControlHosts.{keeps-same, leaves-taken, leaves-waited, spare-waited, stands-lent_host}
 use Rattle.usb_session_calls.proofs.FutureSessions.{sound-future_opened, sound-future_freed}
 use Rattle.usb_session_calls.proofs.NameLemmas.{freed-none, put-back}
+use Rattle.usb_session.proofs.Later.{later-by}
 
 -- the device that is found under a name
 pub started-future : (h : HostState) (given request : TransferData) (nanoseconds timeout : ℕ) (o : Option ℕ) (d : ℕ) (f : FutureState) → given ≡ request → nanoseconds ≡ timeout → o ≡ Some d → f ≡ fresh_future h given nanoseconds → Some f ≡ started_future h request timeout o
@@ -78,6 +81,14 @@ start-spare h now request timeout o is = ap (λ (g : HostState). g.kernel.spare)
     by : (o : Option ℕ) → (started_host h request timeout o).kernel.spare ≡ h.kernel.spare
     by None = refl
     by (Some device) = (stays-started h device request timeout).line.spare
+
+pub start-later : {s whole : SessionState} (now : HostState) (request : TransferData) (timeout : ℕ) (o : Option ℕ) → s ≡ whole → now ≡ started_host s.host request timeout o → Extends whole.host.kernel.past now.kernel.past
+start-later {s = s} now request timeout o view is =
+    later-by now.kernel.past view (subst (λ (h : HostState). Extends s.host.kernel.past h.kernel.past) (sym is) (by o))
+  where
+    by : (o : Option ℕ) → Extends s.host.kernel.past (started_host s.host request timeout o).kernel.past
+    by None = extends-same s.host.kernel.past
+    by (Some device) = (stays-started s.host device request timeout).past
 
 pub start-gives : (s : SessionState) (state : State) (now : HostState) (after : List (Option FutureState)) (n : ℕ) (f : FutureState) (request : TransferData) (timeout : ℕ) (target : ControlTarget) (o : Option ℕ) → Represents s state → bars_control s.host.kernel.past ≡ false → is_free s.futures n ≡ true → o ≡ number_of_target s.host s.devices s.interfaces target → after ≡ set_name s.futures n f → Some f ≡ started_future s.host request timeout o → now ≡ started_host s.host request timeout o → Gives (record s { host = now; futures = after }) ok_line (start_answer state n target request timeout)
 unfolding start_answer
@@ -148,6 +159,11 @@ polled-sound s now last after n f y sound was rest taken spent closed =
 pub polled-spare : (h now last : HostState) (f y : FutureState) → now ≡ future_taken h f → y ≡ spent_future f → last ≡ future_closed now y → last.kernel.spare ≡ h.kernel.spare
 polled-spare h now last f y taken spent closed = ap (λ (g : HostState). g.kernel.spare) (taken-is h now f y last taken spent closed) ∙ (stays-taken h f).line.spare
 
+pub polled-later : {s whole : SessionState} (now last : HostState) (f y : FutureState) → s ≡ whole → now ≡ future_taken s.host f → y ≡ spent_future f → last ≡ future_closed now y → Extends whole.host.kernel.past last.kernel.past
+polled-later {s = s} now last f y view taken spent closed =
+    later-by last.kernel.past view
+    (subst (λ (h : HostState). Extends s.host.kernel.past h.kernel.past) (sym (taken-is s.host now f y last taken spent closed)) (stays-taken s.host f).past)
+
 polled-by : (s : SessionState) (state : State) (last : HostState) (after : List (Option FutureState)) (n : ℕ) (f : FutureState) (o : Option (Result (List ℕ) TransferError)) (answer : Result (List ℕ) TransferError) → Represents s state → after ≡ freed s.futures n → last ≡ future_taken s.host f → o ≡ Some answer → Gives (record s { host = last; futures = after }) (received_line answer) (future_polled state n f o)
 polled-by s state last after n f None answer r rest is came = absurd (cc)
 polled-by s state last after n f (Some given) answer r rest is came =
@@ -197,6 +213,12 @@ waited-spare S s steps at now last n f sound view is was taken rest room =
     let spare : s.host.kernel.spare ≡ S.host.kernel.spare = ap (λ (v : SessionState). v.host.kernel.spare) view in
     ap (λ (h : HostState). h.kernel.spare + length steps) (waited-is s.host at now last steps f is taken rest)
     ∙ spare-waited s.host steps f (sound.futures_wait n f was) (sound.futures_stand n f was) (rw spare room) ∙ spare
+
+pub waited-later : (S s : SessionState) (steps : List KernelStep) (at now last : HostState) (n : ℕ) (f : FutureState) → IsSound s → s ≡ S → at ≡ record s.host { steps = steps } → named s.futures n ≡ Some f → now ≡ future_taken (future_awaited at f) f → last ≡ host_rest now → Extends S.host.kernel.past last.kernel.past
+waited-later S s steps at now last n f sound view is was taken rest =
+    later-by last.kernel.past view
+    (subst (λ (h : HostState). Extends s.host.kernel.past h.kernel.past) (sym (waited-is s.host at now last steps f is taken rest))
+    (leaves-waited s.host steps f (sound.futures_wait n f was) (sound.futures_stand n f was)).session.past)
 
 pub waited-gives : (s : SessionState) (state : State) (now : HostState) (after : List (Option FutureState)) (n : ℕ) (f : FutureState) (answer : Result (List ℕ) TransferError) → Represents s state → named s.futures n ≡ Some f → after ≡ freed s.futures n → now ≡ future_taken (future_awaited s.host f) f → future_answer (future_awaited s.host f) f ≡ Some answer
     → Gives (record s { host = now; futures = after }) (received_line answer) (if_open (named state.futures n) (future_waited state n) (condition_answer state))

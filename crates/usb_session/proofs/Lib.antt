@@ -1,5 +1,6 @@
 pub mod AccountLemmas
 pub mod CallLeads
+pub mod CallLines
 pub mod CloseAnswers
 pub mod CloseCode
 pub mod ControlLines
@@ -42,6 +43,7 @@ pub mod OtherLines
 pub mod Barred
 pub mod TakenTickets
 pub mod StreamsLeave
+pub mod Later
 pub mod LinesBehind
 pub mod StreamsKeep
 pub mod ReadersKeep

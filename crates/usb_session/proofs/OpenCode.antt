@@ -105,3 +105,8 @@ open-barred s state d bus address r used = rw (rw r at used) (barred-gives s sta
 pub open-spare : {A : Type 0} (h now : HostState) (bus address : ℕ) (r : Result A (Fail ErrorState)) → Leaves r now (host_opened h bus address) h → now.kernel.spare ≡ h.kernel.spare
 open-spare h now bus address r is =
     left (λ (g : HostState). g.kernel.spare ≡ h.kernel.spare) r now (host_opened h bus address) h is (ap (λ (g : HostState). g.kernel.spare) (opened-is h bus address)) refl
+
+-- nor is there an event
+pub open-past : {A : Type 0} (h now : HostState) (bus address : ℕ) (r : Result A (Fail ErrorState)) → Leaves r now (host_opened h bus address) h → now.kernel.past ≡ h.kernel.past
+open-past h now bus address r is =
+    left (λ (g : HostState). g.kernel.past ≡ h.kernel.past) r now (host_opened h bus address) h is (ap (λ (g : HostState). g.kernel.past) (opened-is h bus address)) refl

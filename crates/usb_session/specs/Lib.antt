@@ -13,6 +13,7 @@ pub mod TreeCalls
 pub mod NameCalls
 pub mod CallAnswers
 pub mod Answers
+pub mod AnswerLines
 pub mod Output
 pub mod Sums
 pub mod SessionFacts

@@ -1,6 +1,7 @@
 //! The answer to a line of a script.
 
 ghost use Rattle.std.specs.Prelude.{◌≡◌, ◌≤◌, ◌+◌, OnOk, length, string_bytes};
+ghost use Rattle.usb_kernel.specs.Extends.{Extends};
 ghost use Rattle.usb_script_lines.specs.ItemKinds.{steps_in, places_in};
 ghost use Rattle.usb_session_calls.specs.State.{State};
 ghost use Rattle.usb_session_calls.specs.Answer.{condition_answer};
@@ -28,6 +29,7 @@ impl Session {
         ensures answered { Answers self.old self.new line.old line.new result
             (λ state. on_tree state call) }
         ensures spare { self.new.host.kernel.spare ≡ self.old.host.kernel.spare }
+        ensures later { Extends self.old.host.kernel.past self.new.host.kernel.past }
     {
         match call {
             TreeCall::List => self.list(line),
@@ -43,6 +45,7 @@ impl Session {
         ensures answered { Answers self.old self.new line.old line.new result
             (λ state. on_open state call) }
         ensures spare { self.new.host.kernel.spare ≡ self.old.host.kernel.spare }
+        ensures later { Extends self.old.host.kernel.past self.new.host.kernel.past }
     {
         match call {
             OpenCall::Device {
@@ -101,6 +104,7 @@ impl Session {
         ensures answered { Answers self.old self.new line.old line.new result
             (λ state. on_close state call) }
         ensures spare { self.new.host.kernel.spare ≡ self.old.host.kernel.spare }
+        ensures later { Extends self.old.host.kernel.past self.new.host.kernel.past }
     {
         match call {
             CloseCall::Device(name) => self.close_device(line, name),
@@ -120,6 +124,7 @@ impl Session {
             (λ state. on_future state name call) }
         ensures spare { self.new.host.kernel.spare + places_of (Call.Future name call)
             ≡ self.old.host.kernel.spare }
+        ensures later { Extends self.old.host.kernel.past self.new.host.kernel.past }
     {
         match call {
             FutureCall::Poll => self.poll_future(line, name),
@@ -135,6 +140,7 @@ impl Session {
             (λ state. call_answer state call) }
         ensures spare { self.old.host.kernel.spare
             ≤ self.new.host.kernel.spare + places_of call }
+        ensures later { Extends self.old.host.kernel.past self.new.host.kernel.past }
     {
         match call {
             Call::Setup => Ok(()),
@@ -173,6 +179,7 @@ impl Session {
         ensures answered { Answers self.old self.new line.old line.new result
             (λ state. condition_answer (stepped_all state (steps_in item))) }
         ensures spare { self.old.host.kernel.spare ≤ self.new.host.kernel.spare + places_in item }
+        ensures later { Extends self.old.host.kernel.past self.new.host.kernel.past }
     {
         let steps = item.into_steps(*line.allocator());
         self.step_all(steps);
@@ -186,6 +193,7 @@ impl Session {
             (λ state. answer state item) }
         ensures spare { OnOk result
             (self.old.host.kernel.spare ≤ self.new.host.kernel.spare + places_in item) }
+        ensures later { Extends self.old.host.kernel.past self.new.host.kernel.past }
     {
         if self.bars_line(&item) {
             return self.answer_barred(line, item);

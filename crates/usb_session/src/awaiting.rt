@@ -2,6 +2,7 @@
 
 ghost use Rattle.std.specs.Prelude.{◌≡◌, ◌≤◌, ◌<◌, ◌+◌, ◌^◌, length, IfOk, OnOk, OnErr};
 ghost use Rattle.std.specs.Option.{ForSome};
+ghost use Rattle.usb_kernel.specs.Extends.{Extends};
 ghost use Rattle.usb_kernel.specs.Tickets.{tickets};
 ghost use Rattle.usb_device.specs.Futures.{StandsFuture};
 ghost use Rattle.usb_session_calls.specs.Controls.{request_for, request_with};
@@ -110,6 +111,7 @@ impl Session {
         ensures answered { Answers self.old self.new line.old line.new result
             (λ state. start_answer state name target (request_for setup wanted) timeout) }
         ensures spare { self.new.host.kernel.spare ≡ self.old.host.kernel.spare }
+        ensures later { Extends self.old.host.kernel.past self.new.host.kernel.past }
     {
         if bars_control(&self.host) {
             return write_condition(line);
@@ -146,6 +148,7 @@ impl Session {
         ensures answered { Answers self.old self.new line.old line.new result
             (λ state. start_answer state name target (request_with setup bytes) timeout) }
         ensures spare { self.new.host.kernel.spare ≡ self.old.host.kernel.spare }
+        ensures later { Extends self.old.host.kernel.past self.new.host.kernel.past }
     {
         if bars_control(&self.host) {
             return write_condition(line);
@@ -174,6 +177,7 @@ impl Session {
         ensures answered { Answers self.old self.new line.old line.new result
             (λ state. on_future state name FutureCall.Poll) }
         ensures spare { self.new.host.kernel.spare ≡ self.old.host.kernel.spare }
+        ensures later { Extends self.old.host.kernel.past self.new.host.kernel.past }
     {
         let number = name.number();
         let Some(mut future) = take_at(&mut self.futures, number) else {
@@ -199,6 +203,7 @@ impl Session {
         ensures answered { Answers self.old self.new line.old line.new result
             (λ state. on_future state name (FutureCall.Wait steps)) }
         ensures spare { self.new.host.kernel.spare + length steps ≡ self.old.host.kernel.spare }
+        ensures later { Extends self.old.host.kernel.past self.new.host.kernel.past }
     {
         self.host.lend_steps(steps.into_vec());
         let Some(future) = take_at(&mut self.futures, name.number()) else {

@@ -1,6 +1,7 @@
 //! `claim` and `detachclaim`: an interface of an open device is claimed.
 
 ghost use Rattle.std.specs.Prelude.{◌≡◌, OnOk, IfOk, string_bytes};
+ghost use Rattle.usb_kernel.specs.Extends.{Extends};
 ghost use Rattle.usb_device.specs.HandleStates.{StandsDevice, StandsInterface};
 ghost use Rattle.usb_device.specs.HandleCalls.{ClaimsInterface};
 ghost use Rattle.usb_session_calls.specs.State.{State};
@@ -47,6 +48,7 @@ impl Session {
         ensures answered { Answers self.old self.new line.old line.new result
             (λ state. claim_answer state device number name reattach) }
         ensures spare { self.new.host.kernel.spare ≡ self.old.host.kernel.spare }
+        ensures later { Extends self.old.host.kernel.past self.new.host.kernel.past }
     {
         let Some(device) = open_at(&self.devices, device.number()) else {
             return write_condition(line);

@@ -1,6 +1,7 @@
 //! `clone`: one more handle of an open device, or of a claimed interface.
 
 ghost use Rattle.std.specs.Prelude.{◌≡◌, OnOk, string_bytes};
+ghost use Rattle.usb_kernel.specs.Extends.{Extends};
 ghost use Rattle.usb_session_calls.specs.State.{State};
 ghost use Rattle.usb_session_calls.specs.Answered.{Answers};
 ghost use Rattle.usb_session_calls.specs.Clones.{clone_device_answer, clone_interface_answer};
@@ -22,6 +23,7 @@ impl Session {
         ensures answered { Answers self.old self.new line.old line.new result
             (λ state. clone_device_answer state name device) }
         ensures spare { self.new.host.kernel.spare ≡ self.old.host.kernel.spare }
+        ensures later { Extends self.old.host.kernel.past self.new.host.kernel.past }
     {
         let Some(device) = open_at(&self.devices, device.number()) else {
             return write_condition(line);
@@ -44,6 +46,7 @@ impl Session {
         ensures answered { Answers self.old self.new line.old line.new result
             (λ state. clone_interface_answer state name interface) }
         ensures spare { self.new.host.kernel.spare ≡ self.old.host.kernel.spare }
+        ensures later { Extends self.old.host.kernel.past self.new.host.kernel.past }
     {
         let Some(interface) = open_at(&self.interfaces, interface.number()) else {
             return write_condition(line);

@@ -1,6 +1,7 @@
 //! `close` and `release`.
 
 ghost use Rattle.std.specs.Prelude.{◌≡◌, is_some};
+ghost use Rattle.usb_kernel.specs.Extends.{Extends};
 ghost use Rattle.usb_session_calls.specs.State.{State};
 ghost use Rattle.usb_session_calls.specs.Names.{named, freed};
 ghost use Rattle.usb_session_calls.specs.Closes.{closed, close_answer, close_future_answer, close_device_answer, close_interface_answer, release_answer};
@@ -39,6 +40,7 @@ impl Session {
         ensures answered { Answers self.old self.new line.old line.new result
             (λ state. close_answer state name) }
         ensures spare { self.new.host.kernel.spare ≡ self.old.host.kernel.spare }
+        ensures later { Extends self.old.host.kernel.past self.new.host.kernel.past }
     {
         if self.close_endpoint(name.number()) {
             write_ok(line)
@@ -68,6 +70,7 @@ impl Session {
         ensures answered { Answers self.old self.new line.old line.new result
             (λ state. close_future_answer state name) }
         ensures spare { self.new.host.kernel.spare ≡ self.old.host.kernel.spare }
+        ensures later { Extends self.old.host.kernel.past self.new.host.kernel.past }
     {
         if self.close_future_at(name.number()) {
             write_ok(line)
@@ -99,6 +102,7 @@ impl Session {
         ensures answered { Answers self.old self.new line.old line.new result
             (λ state. close_device_answer state name) }
         ensures spare { self.new.host.kernel.spare ≡ self.old.host.kernel.spare }
+        ensures later { Extends self.old.host.kernel.past self.new.host.kernel.past }
     {
         if self.close_name(name.number()) {
             write_ok(line)
@@ -129,6 +133,7 @@ impl Session {
         ensures answered { Answers self.old self.new line.old line.new result
             (λ state. close_interface_answer state name) }
         ensures spare { self.new.host.kernel.spare ≡ self.old.host.kernel.spare }
+        ensures later { Extends self.old.host.kernel.past self.new.host.kernel.past }
     {
         if self.close_handle(name.number()) {
             write_ok(line)
@@ -142,6 +147,7 @@ impl Session {
         ensures answered { Answers self.old self.new line.old line.new result
             (λ state. release_answer state name) }
         ensures spare { self.new.host.kernel.spare ≡ self.old.host.kernel.spare }
+        ensures later { Extends self.old.host.kernel.past self.new.host.kernel.past }
     {
         let number = name.number();
         let Some(interface) = take_at(&mut self.interfaces, number) else {

@@ -1,6 +1,7 @@
 //! `endpoint`: an endpoint of a claimed interface is opened.
 
 ghost use Rattle.std.specs.Prelude.{◌≡◌, OnOk, IfOk, string_bytes};
+ghost use Rattle.usb_kernel.specs.Extends.{Extends};
 ghost use Rattle.usb_script_words.specs.EndpointKinds.{transfer_type_of, direction_of};
 ghost use Rattle.usb_device_endpoint.specs.Handles.{Stands, KeepsOthers};
 ghost use Rattle.usb_device_host.specs.HostBus.{bus_of};
@@ -72,6 +73,7 @@ impl Session {
             (λ state. endpoint_answer state name interface address
             (transfer_type_of kind) (direction_of kind)) }
         ensures spare { self.new.host.kernel.spare ≡ self.old.host.kernel.spare }
+        ensures later { Extends self.old.host.kernel.past self.new.host.kernel.past }
     {
         let Some(interface) = open_at(&self.interfaces, interface.number()) else {
             return write_condition(line);

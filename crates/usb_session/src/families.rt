@@ -1,6 +1,7 @@
 //! Calls on what is open under a name, a method for each family.
 
 ghost use Rattle.std.specs.Prelude.{◌≡◌, ◌≤◌, ◌+◌, length};
+ghost use Rattle.usb_kernel.specs.Extends.{Extends};
 ghost use Rattle.usb_session_calls.specs.Answered.{Answers};
 ghost use Rattle.usb_session_calls.specs.DeviceCalls.{device_places, on_device};
 ghost use Rattle.usb_session_calls.specs.InterfaceCalls.{on_interface};
@@ -32,6 +33,7 @@ impl Session {
             (λ state. on_device state name call) }
         ensures spare { self.old.host.kernel.spare
             ≤ self.new.host.kernel.spare + device_places call }
+        ensures later { Extends self.old.host.kernel.past self.new.host.kernel.past }
     {
         let Some(device) = open_at(&self.devices, name.number()) else {
             return write_condition(line);
@@ -49,6 +51,7 @@ impl Session {
         ensures answered { Answers self.old self.new line.old line.new result
             (λ state. on_interface state name call) }
         ensures spare { self.new.host.kernel.spare ≡ self.old.host.kernel.spare }
+        ensures later { Extends self.old.host.kernel.past self.new.host.kernel.past }
     {
         let Some(interface) = open_at(&self.interfaces, name.number()) else {
             return write_condition(line);
@@ -69,6 +72,7 @@ impl Session {
         ensures answered { Answers self.old self.new line.old line.new result
             (λ state. along_steps state steps (λ s. on_endpoint s name call)) }
         ensures spare { self.new.host.kernel.spare + length steps ≡ self.old.host.kernel.spare }
+        ensures later { Extends self.old.host.kernel.past self.new.host.kernel.past }
     {
         let number = name.number();
         self.host.lend_steps(steps.into_vec());
@@ -94,6 +98,7 @@ impl Session {
         ensures answered { Answers self.old self.new line.old line.new result
             (λ state. along_steps state steps (λ s. on_reader s name call)) }
         ensures spare { self.new.host.kernel.spare + length steps ≡ self.old.host.kernel.spare }
+        ensures later { Extends self.old.host.kernel.past self.new.host.kernel.past }
     {
         let number = name.number();
         self.host.lend_steps(steps.into_vec());
@@ -119,6 +124,7 @@ impl Session {
         ensures answered { Answers self.old self.new line.old line.new result
             (λ state. along_steps state steps (λ s. on_writer s name call)) }
         ensures spare { self.new.host.kernel.spare + length steps ≡ self.old.host.kernel.spare }
+        ensures later { Extends self.old.host.kernel.past self.new.host.kernel.past }
     {
         let number = name.number();
         self.host.lend_steps(steps.into_vec());
@@ -143,6 +149,7 @@ impl Session {
         ensures answered { Answers self.old self.new line.old line.new result
             (λ state. along_steps state steps (λ s. on_control s call)) }
         ensures spare { self.new.host.kernel.spare + length steps ≡ self.old.host.kernel.spare }
+        ensures later { Extends self.old.host.kernel.past self.new.host.kernel.past }
     {
         self.host.lend_steps(steps.into_vec());
         let called = call_control(&self.devices, &self.interfaces, &mut self.host, line, call);

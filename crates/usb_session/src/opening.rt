@@ -1,6 +1,7 @@
 //! `open` and `openpath`: a device is opened at its bus and address.
 
 ghost use Rattle.std.specs.Prelude.{◌≡◌, true};
+ghost use Rattle.usb_kernel.specs.Extends.{Extends};
 ghost use Rattle.usb_session_calls.specs.State.{State};
 ghost use Rattle.usb_session_calls.specs.Answered.{Answers};
 ghost use Rattle.usb_session_calls.specs.Names.{is_free};
@@ -27,6 +28,7 @@ impl Session {
         ensures answered { Answers self.old self.new line.old line.new result
             (λ state. open_answer state name bus address) }
         ensures spare { self.new.host.kernel.spare ≡ self.old.host.kernel.spare }
+        ensures later { Extends self.old.host.kernel.past self.new.host.kernel.past }
     {
         if !is_free(&self.devices, name.number()) {
             return write_condition(line);
@@ -53,6 +55,7 @@ impl Session {
             (λ state. open_answer state name
             found.now.numbers.busnum found.now.numbers.address) }
         ensures spare { self.new.host.kernel.spare ≡ self.old.host.kernel.spare }
+        ensures later { Extends self.old.host.kernel.past self.new.host.kernel.past }
     {
         match found.open(&mut self.host) {
             Ok(device) => {
@@ -75,6 +78,7 @@ impl Session {
         ensures answered { Answers self.old self.new line.old line.new result
             (λ state. open_path_answer state name path.now) }
         ensures spare { self.new.host.kernel.spare ≡ self.old.host.kernel.spare }
+        ensures later { Extends self.old.host.kernel.past self.new.host.kernel.past }
     {
         if !is_free(&self.devices, name.number()) {
             return write_condition(line);

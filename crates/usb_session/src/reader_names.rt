@@ -2,6 +2,7 @@
 //! closed with it.
 
 ghost use Rattle.std.specs.Prelude.{◌≡◌, is_some};
+ghost use Rattle.usb_kernel.specs.Extends.{Extends};
 ghost use Rattle.usb_session_calls.specs.State.{State};
 ghost use Rattle.usb_session_calls.specs.Names.{named, freed};
 ghost use Rattle.usb_session_calls.specs.Readers.{reader_answer, inner_answer, reader_closed, close_reader_answer};
@@ -29,6 +30,7 @@ impl Session {
         ensures answered { Answers self.old self.new line.old line.new result
             (λ state. reader_answer state reader endpoint transfer_size) }
         ensures spare { self.new.host.kernel.spare ≡ self.old.host.kernel.spare }
+        ensures later { Extends self.old.host.kernel.past self.new.host.kernel.past }
     {
         let name = reader.number();
         if !is_free(&self.readers, name) {
@@ -62,6 +64,7 @@ impl Session {
         ensures answered { Answers self.old self.new line.old line.new result
             (λ state. inner_answer state endpoint reader) }
         ensures spare { self.new.host.kernel.spare ≡ self.old.host.kernel.spare }
+        ensures later { Extends self.old.host.kernel.past self.new.host.kernel.past }
     {
         let name = endpoint.number();
         if !is_free(&self.endpoints, name) {
@@ -95,6 +98,7 @@ impl Session {
         ensures answered { Answers self.old self.new line.old line.new result
             (λ state. close_reader_answer state name) }
         ensures spare { self.new.host.kernel.spare ≡ self.old.host.kernel.spare }
+        ensures later { Extends self.old.host.kernel.past self.new.host.kernel.past }
     {
         if self.close_reader_at(name) {
             write_ok(line)

@@ -1,6 +1,7 @@
 //! `hotplug`: the next packet of udev is looked at.
 
 ghost use Rattle.std.specs.Prelude.{◌≡◌};
+ghost use Rattle.usb_kernel.specs.Extends.{Extends};
 ghost use Rattle.usb_session_calls.specs.Answered.{Answers};
 ghost use Rattle.usb_session.specs.Hotplugs.{hotplug_answer};
 
@@ -13,6 +14,7 @@ impl Session {
     pub(crate) fn hotplug(&mut self, line: &mut String) -> Result<(), NoMemory>
         ensures answered { Answers self.old self.new line.old line.new result hotplug_answer }
         ensures spare { self.new.host.kernel.spare ≡ self.old.host.kernel.spare }
+        ensures later { Extends self.old.host.kernel.past self.new.host.kernel.past }
     {
         let event = self.watch.poll_next(&self.tree)?;
         write_hotplug(line, &event)

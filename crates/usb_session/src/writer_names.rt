@@ -2,6 +2,7 @@
 //! closed with it.
 
 ghost use Rattle.std.specs.Prelude.{◌≡◌, is_some};
+ghost use Rattle.usb_kernel.specs.Extends.{Extends};
 ghost use Rattle.usb_session_calls.specs.State.{State};
 ghost use Rattle.usb_session_calls.specs.Names.{named, freed};
 ghost use Rattle.usb_session_calls.specs.Writers.{writer_answer, writer_inner_answer, writer_closed, close_writer_answer};
@@ -29,6 +30,7 @@ impl Session {
         ensures answered { Answers self.old self.new line.old line.new result
             (λ state. writer_answer state writer endpoint transfer_size) }
         ensures spare { self.new.host.kernel.spare ≡ self.old.host.kernel.spare }
+        ensures later { Extends self.old.host.kernel.past self.new.host.kernel.past }
     {
         let name = writer.number();
         if !is_free(&self.writers, name) {
@@ -62,6 +64,7 @@ impl Session {
         ensures answered { Answers self.old self.new line.old line.new result
             (λ state. writer_inner_answer state endpoint writer) }
         ensures spare { self.new.host.kernel.spare ≡ self.old.host.kernel.spare }
+        ensures later { Extends self.old.host.kernel.past self.new.host.kernel.past }
     {
         let name = endpoint.number();
         if !is_free(&self.endpoints, name) {
@@ -96,6 +99,7 @@ impl Session {
         ensures answered { Answers self.old self.new line.old line.new result
             (λ state. close_writer_answer state name) }
         ensures spare { self.new.host.kernel.spare ≡ self.old.host.kernel.spare }
+        ensures later { Extends self.old.host.kernel.past self.new.host.kernel.past }
     {
         if self.close_writer_at(name) {
             write_ok(line)

@@ -9,6 +9,9 @@ use Rattle.usb_session_calls.proofs.NameLemmas.{found_at, free_at}
 use Rattle.usb_session_calls.proofs.Answering.{answers, answers-same}
 use Rattle.usb_session_calls.proofs.Handled.{sound-claimed, sound-refused}
 use Rattle.usb_session.proofs.ClaimCode.{claim-gives, claim-refused, claim-none, claim-used, claim-spare}
+use Rattle.usb_kernel.proofs.Extends.{extends-same}
+use Rattle.usb_session.proofs.Later.{later-past}
+use Rattle.usb_session.proofs.ClaimCode.{claim-past}
 use Rattle.usb_session.proofs.session.Session.claim.Goals as goal
 
 pub returns-in_default-clause-answered : goal.returns-in_default-clause-answered
@@ -68,3 +71,18 @@ returns-in-Err-Cause-clause-spare c =
 pub returns-in-Err-Memory-clause-spare : goal.returns-in-Err-Memory-clause-spare
 returns-in-Err-Memory-clause-spare c =
     claim-spare {A = ℕ} c.self.inside.host c.claim_of.new.host c.in-Some.device.now c.args.number c.args.reattach (Err c.in-Err-Memory.field-0) c.in-Err-Memory.ensures.claims.host ∙ ap (λ (v : SessionState). v.host.kernel.spare) c.self.view_is
+
+pub returns-in_default-clause-later : goal.returns-in_default-clause-later
+returns-in_default-clause-later c = extends-same c.args.self.now.host.kernel.past
+
+pub returns-then-not-is_free-clause-later : goal.returns-then-not-is_free-clause-later
+returns-then-not-is_free-clause-later c = extends-same c.args.self.now.host.kernel.past
+
+pub returns-in-Ok-clause-later : goal.returns-in-Ok-clause-later
+returns-in-Ok-clause-later c = later-past _ c.self.view_is (claim-past c.self.inside.host c.claim_of.new.host c.in-Some.device.now c.args.number c.args.reattach (Ok c.in-Ok.interface) c.in-Ok.ensures.claims.host)
+
+pub returns-in-Err-Cause-clause-later : goal.returns-in-Err-Cause-clause-later
+returns-in-Err-Cause-clause-later c = later-past _ c.self.view_is (claim-past {A = ℕ} c.self.inside.host c.claim_of.new.host c.in-Some.device.now c.args.number c.args.reattach (Err c.in-Err-Cause.field-0) c.in-Err-Cause.ensures.claims.host)
+
+pub returns-in-Err-Memory-clause-later : goal.returns-in-Err-Memory-clause-later
+returns-in-Err-Memory-clause-later c = later-past _ c.self.view_is (claim-past {A = ℕ} c.self.inside.host c.claim_of.new.host c.in-Some.device.now c.args.number c.args.reattach (Err c.in-Err-Memory.field-0) c.in-Err-Memory.ensures.claims.host)

@@ -7,6 +7,8 @@ use Rattle.usb_session.specs.SessionFacts.{made_of}
 use Rattle.usb_session_calls.proofs.NameLemmas.{found_at, free_at}
 use Rattle.usb_session_calls.proofs.Answering.{answers, answers-same}
 use Rattle.usb_session.proofs.DeviceHandles.{sound-device_cloned, clone_device-none, clone_device-used, clone_device-gives}
+use Rattle.usb_kernel.proofs.Extends.{extends-same}
+use Rattle.usb_session.proofs.Later.{later-past}
 use Rattle.usb_session.proofs.session.Session.clone_device.Goals as goal
 use Rattle.usb_session.proofs.session.Session.clone_device.Goals.{After-write_ok}
 
@@ -40,3 +42,15 @@ returns-clause-answered c =
 
 pub returns-clause-spare : goal.returns-clause-spare
 returns-clause-spare c = ap (λ (h : HostState). h.kernel.spare) c.in_ok-clone.ensures.ok ∙ ap (λ (v : SessionState). v.host.kernel.spare) c.self.view_is
+
+pub returns-in_default-clause-later : goal.returns-in_default-clause-later
+returns-in_default-clause-later c = extends-same c.args.self.now.host.kernel.past
+
+pub returns-then-not-is_free-clause-later : goal.returns-then-not-is_free-clause-later
+returns-then-not-is_free-clause-later c = extends-same c.args.self.now.host.kernel.past
+
+pub returns-clause-later : goal.returns-clause-later
+returns-clause-later c = later-past _ c.self.view_is (ap (λ (h : HostState). h.kernel.past) c.in_ok-clone.ensures.ok)
+
+pub returns-in_err-clone-clause-later : goal.returns-in_err-clone-clause-later
+returns-in_err-clone-clause-later c = later-past _ c.self.view_is (ap (λ (h : HostState). h.kernel.past) c.in_err-clone.ensures.err)

@@ -9,6 +9,9 @@ use Rattle.usb_session_calls.proofs.Answering.{answers, answers-same}
 use Rattle.usb_session_calls.proofs.HandleHosts.{cloned-keeps, spare-beside}
 use Rattle.usb_session_calls.proofs.Handled.{sound-cloned}
 use Rattle.usb_session_calls.proofs.InterfaceHandles.{clone_interface-none, clone_interface-used, clone_interface-gives}
+use Rattle.usb_kernel.proofs.Extends.{extends-same}
+use Rattle.usb_session.proofs.Later.{later-past, past-beside}
+use Rattle.usb_device_host.specs.HostState.{HostState}
 use Rattle.usb_session.proofs.session.Session.clone_interface.Goals as goal
 use Rattle.usb_session.proofs.session.Session.clone_interface.Goals.{After-write_ok}
 
@@ -44,3 +47,15 @@ pub returns-clause-spare : goal.returns-clause-spare
 returns-clause-spare c =
     spare-beside c.self.inside.host c.clone_on.new.host (handle_cloned c.self.inside.host c.in-Some.interface.now.key) c.in_ok-clone.ensures.ok (cloned-keeps c.self.inside.host c.in-Some.interface.now.key)
     ∙ ap (λ (v : SessionState). v.host.kernel.spare) c.self.view_is
+
+pub returns-in_default-clause-later : goal.returns-in_default-clause-later
+returns-in_default-clause-later c = extends-same c.args.self.now.host.kernel.past
+
+pub returns-then-not-is_free-clause-later : goal.returns-then-not-is_free-clause-later
+returns-then-not-is_free-clause-later c = extends-same c.args.self.now.host.kernel.past
+
+pub returns-clause-later : goal.returns-clause-later
+returns-clause-later c = later-past _ c.self.view_is (past-beside c.self.inside.host c.clone_on.new.host _ c.in_ok-clone.ensures.ok (cloned-keeps c.self.inside.host c.in-Some.interface.now.key))
+
+pub returns-in_err-clone-clause-later : goal.returns-in_err-clone-clause-later
+returns-in_err-clone-clause-later c = later-past _ c.self.view_is (ap (λ (h : HostState). h.kernel.past) c.in_err-clone.ensures.err)

@@ -5,6 +5,7 @@ use Rattle.usb_session_calls.specs.Closes.{close_answer, closed, closed_at}
 use Rattle.usb_session_calls.proofs.Called.{endpoints_kept}
 use Rattle.usb_session.proofs.KeptNames.{kept-some}
 use Rattle.usb_session.proofs.CloseAnswers.{close-answers}
+use Rattle.usb_session.proofs.Later.{later-stands, closed-goes}
 use Rattle.usb_session.proofs.session.Session.close.Goals as goal
 
 pub returns-then-close_endpoint-clause-answered : goal.returns-then-close_endpoint-clause-answered
@@ -20,3 +21,9 @@ returns-else-close_endpoint-clause-answered c =
     close-answers (λ (state : State) n. named state.endpoints n) closed_at c.args.self.now c.close_endpoint.new.self c.number.result c.args.name c.args.line.now c.write_condition.new.out c.write_condition.result false c.number.ensures.value
     (λ state r. kept-some _ _ _ (endpoints_kept c.args.self.now state r) c.number.result false (sym c.close_endpoint.ensures.was_open ∙ c.if-close_endpoint.false))
     c.close_endpoint.ensures.stands c.write_condition.ensures.text
+
+pub returns-then-close_endpoint-clause-later : goal.returns-then-close_endpoint-clause-later
+returns-then-close_endpoint-clause-later c = later-stands _ _ _ (closed-goes c.number.result) c.close_endpoint.ensures.stands
+
+pub returns-else-close_endpoint-clause-later : goal.returns-else-close_endpoint-clause-later
+returns-else-close_endpoint-clause-later c = later-stands _ _ _ (closed-goes c.number.result) c.close_endpoint.ensures.stands

@@ -6,6 +6,7 @@ use Rattle.usb_session_calls.specs.Closes.{close_future_answer}
 use Rattle.usb_session.specs.Ends.{future_closed_at, future_closed_under}
 use Rattle.usb_session_calls.specs.SessionState.{SessionState}
 use Rattle.usb_session.proofs.CloseAnswers.{close-answers}
+use Rattle.usb_session.proofs.Later.{later-stands, future_closed-goes}
 use Rattle.usb_session.proofs.session.Session.close_future.Goals as goal
 
 pub returns-then-close_future_at-clause-answered : goal.returns-then-close_future_at-clause-answered
@@ -21,3 +22,9 @@ returns-else-close_future_at-clause-answered c =
     close-answers (λ (state : State) n. named state.futures n) future_closed_at c.args.self.now c.close_future_at.new.self c.number.result c.args.name c.args.line.now c.write_condition.new.out c.write_condition.result false c.number.ensures.value
     (λ state r. ap (λ (v : SessionState). is_some (named v.futures c.number.result)) (sym r) ∙ sym c.close_future_at.ensures.was_open ∙ c.if-close_future_at.false)
     c.close_future_at.ensures.stands c.write_condition.ensures.text
+
+pub returns-then-close_future_at-clause-later : goal.returns-then-close_future_at-clause-later
+returns-then-close_future_at-clause-later c = later-stands _ _ _ (future_closed-goes c.number.result) c.close_future_at.ensures.stands
+
+pub returns-else-close_future_at-clause-later : goal.returns-else-close_future_at-clause-later
+returns-else-close_future_at-clause-later c = later-stands _ _ _ (future_closed-goes c.number.result) c.close_future_at.ensures.stands

@@ -5,6 +5,7 @@ use Rattle.usb_session_calls.specs.Readers.{close_reader_answer, reader_closed, 
 use Rattle.usb_session_calls.proofs.Called.{readers_kept}
 use Rattle.usb_session.proofs.KeptNames.{kept-some}
 use Rattle.usb_session.proofs.CloseAnswers.{close-answers}
+use Rattle.usb_session.proofs.Later.{later-stands, reader_closed-goes}
 use Rattle.usb_session.proofs.session.Session.close_reader.Goals as goal
 
 pub returns-then-close_reader_at-clause-answered : goal.returns-then-close_reader_at-clause-answered
@@ -20,3 +21,9 @@ returns-else-close_reader_at-clause-answered c =
     close-answers (λ (state : State) n. named state.readers n) reader_closed_at c.args.self.now c.close_reader_at.new.self c.args.name c.args.name c.args.line.now c.write_condition.new.out c.write_condition.result false refl
     (λ state r. kept-some _ _ _ (readers_kept c.args.self.now state r) c.args.name false (sym c.close_reader_at.ensures.was_open ∙ c.if-close_reader_at.false))
     c.close_reader_at.ensures.stands c.write_condition.ensures.text
+
+pub returns-then-close_reader_at-clause-later : goal.returns-then-close_reader_at-clause-later
+returns-then-close_reader_at-clause-later c = later-stands _ _ _ (reader_closed-goes c.args.name) c.close_reader_at.ensures.stands
+
+pub returns-else-close_reader_at-clause-later : goal.returns-else-close_reader_at-clause-later
+returns-else-close_reader_at-clause-later c = later-stands _ _ _ (reader_closed-goes c.args.name) c.close_reader_at.ensures.stands

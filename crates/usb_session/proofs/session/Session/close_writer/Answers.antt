@@ -5,6 +5,7 @@ use Rattle.usb_session_calls.specs.Writers.{close_writer_answer, writer_closed, 
 use Rattle.usb_session_calls.proofs.Called.{writers_kept}
 use Rattle.usb_session.proofs.KeptNames.{kept-some}
 use Rattle.usb_session.proofs.CloseAnswers.{close-answers}
+use Rattle.usb_session.proofs.Later.{later-stands, writer_closed-goes}
 use Rattle.usb_session.proofs.session.Session.close_writer.Goals as goal
 
 pub returns-then-close_writer_at-clause-answered : goal.returns-then-close_writer_at-clause-answered
@@ -20,3 +21,9 @@ returns-else-close_writer_at-clause-answered c =
     close-answers (λ (state : State) n. named state.writers n) writer_closed_at c.args.self.now c.close_writer_at.new.self c.args.name c.args.name c.args.line.now c.write_condition.new.out c.write_condition.result false refl
     (λ state r. kept-some _ _ _ (writers_kept c.args.self.now state r) c.args.name false (sym c.close_writer_at.ensures.was_open ∙ c.if-close_writer_at.false))
     c.close_writer_at.ensures.stands c.write_condition.ensures.text
+
+pub returns-then-close_writer_at-clause-later : goal.returns-then-close_writer_at-clause-later
+returns-then-close_writer_at-clause-later c = later-stands _ _ _ (writer_closed-goes c.args.name) c.close_writer_at.ensures.stands
+
+pub returns-else-close_writer_at-clause-later : goal.returns-else-close_writer_at-clause-later
+returns-else-close_writer_at-clause-later c = later-stands _ _ _ (writer_closed-goes c.args.name) c.close_writer_at.ensures.stands

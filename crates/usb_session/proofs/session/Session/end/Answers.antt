@@ -15,6 +15,7 @@ use Rattle.usb_session.proofs.Replaced.{reader_endpoint, writer_endpoint}
 use Rattle.usb_session.proofs.EndLemmas.{none-all, none-open, end-host, end-none, end-empty}
 use Rattle.usb_session.proofs.AccountLemmas.{accounted-all_closed, accounted-none}
 use Rattle.usb_session_calls.proofs.Answering.{under_kept, host_is}
+use Rattle.usb_session.proofs.Later.{later-ended}
 use Rattle.usb_session.proofs.session.Session.end.Goals as goal
 
 -- all is closed, so no endpoint and no future holds a ticket, and each ticket of the host has its end
@@ -111,4 +112,5 @@ returns c =
       lawful = rw (← c.kernel.ensures.kernel) c.journal.ensures.lawful;
       none_open = end-none s before now refl c.finish.ensures.finished c.session.invariant no_devices no_interfaces;
       keeps_nothing = nothing;
+      goes_on = later-ended c.args.self now (λ state r. end-host c.close_devices.new.self before now state (sym (ap (λ (v : SessionState). v.host) c.session.view_is)) c.finish.ensures.finished (stands state r));
     }

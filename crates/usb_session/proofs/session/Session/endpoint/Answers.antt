@@ -9,6 +9,8 @@ use Rattle.usb_session.specs.SessionFacts.{made_of}
 use Rattle.usb_session_calls.proofs.NameLemmas.{found_at, free_at}
 use Rattle.usb_session_calls.proofs.Answering.{answers, answers-same}
 use Rattle.usb_session_calls.proofs.EndpointOpened.{endpoint-sound, maximum-small, endpoint-gives, endpoint-refused, endpoint-none, endpoint-used, asked-sound, asked-spare, opened-spare}
+use Rattle.usb_kernel.proofs.Extends.{extends-same}
+use Rattle.usb_session.proofs.Later.{later-past, asked-past, opened-past}
 use Rattle.usb_session.proofs.session.Session.endpoint.Goals as goal
 
 pub returns-in_default-clause-answered : goal.returns-in_default-clause-answered
@@ -75,3 +77,24 @@ pub returns-in-Err-Memory-clause-spare : goal.returns-in-Err-Memory-clause-spare
 returns-in-Err-Memory-clause-spare c =
     let opens = c.in-Err-Memory.ensures.opens in
     asked-spare c.self.inside.host c.open_any.new.host opens.interface.opened opens.err ∙ ap (λ (v : SessionState). v.host.kernel.spare) c.self.view_is
+
+pub returns-in_default-clause-later : goal.returns-in_default-clause-later
+returns-in_default-clause-later c = extends-same c.args.self.now.host.kernel.past
+
+pub returns-then-not-is_free-clause-later : goal.returns-then-not-is_free-clause-later
+returns-then-not-is_free-clause-later c = extends-same c.args.self.now.host.kernel.past
+
+pub returns-in-Ok-clause-later : goal.returns-in-Ok-clause-later
+returns-in-Ok-clause-later c =
+    let opens = c.in-Ok.ensures.opens in
+    later-past _ c.self.view_is (opened-past c.self.inside.host c.open_any.new.host opens.interface.opened c.in-Some.interface.now.key c.args.address opens.ok)
+
+pub returns-in-Err-Cause-clause-later : goal.returns-in-Err-Cause-clause-later
+returns-in-Err-Cause-clause-later c =
+    let opens = c.in-Err-Cause.ensures.opens in
+    later-past _ c.self.view_is (asked-past c.self.inside.host c.open_any.new.host opens.interface.opened opens.err)
+
+pub returns-in-Err-Memory-clause-later : goal.returns-in-Err-Memory-clause-later
+returns-in-Err-Memory-clause-later c =
+    let opens = c.in-Err-Memory.ensures.opens in
+    later-past _ c.self.view_is (asked-past c.self.inside.host c.open_any.new.host opens.interface.opened opens.err)

@@ -7,6 +7,8 @@ use Rattle.usb_session_calls.proofs.Answering.{Gives, answers, answers-same}
 use Rattle.usb_session.specs.SessionFacts.{made_of}
 use Rattle.usb_session.proofs.TakenOut.{same-none}
 use Rattle.usb_session.proofs.ReaderMoves.{given-sound, inner-gives, inner-used, inner-none}
+use Rattle.usb_kernel.proofs.Extends.{extends-same}
+use Rattle.usb_session.proofs.Later.{later-same}
 use Rattle.usb_session.proofs.session.Session.inner.Goals as goal
 
 -- the endpoint's name is in use
@@ -42,3 +44,12 @@ returns-clause-answered c =
     (answers _ _ _ c.self.view_is c.write_ok.ensures.text
     (inner-gives (made_of c.self.inside) c.number-name.result c.number-number.result _ _ c.widen.result c.in-Some.reader (sym c.take_at.ensures.taken ∙ c.in-Some.is)
     (free_at _ _ _ _ _ _ c.deref.ensures.value refl c.is_free.ensures.free c.if-not-is_free.false) (c.widen.ensures.same ∙ c.into_inner.ensures.endpoint) c.put_at.ensures.after c.take_at.ensures.rest))
+
+pub returns-then-not-is_free-clause-later : goal.returns-then-not-is_free-clause-later
+returns-then-not-is_free-clause-later c = extends-same c.args.self.now.host.kernel.past
+
+pub returns-in_default-clause-later : goal.returns-in_default-clause-later
+returns-in_default-clause-later c = later-same c.self.view_is
+
+pub returns-clause-later : goal.returns-clause-later
+returns-clause-later c = later-same c.self.view_is

@@ -3,6 +3,7 @@ use Rattle.usb_session_calls.specs.Controls.{on_control}
 use Rattle.usb_session.specs.SessionFacts.{made_of}
 use Rattle.usb_session_calls.proofs.ControlCode.{devices-lent, interfaces-lent, sound-controlled, spare-controlled, answers-controlled}
 use Rattle.usb_session.proofs.Lent.{lent_is, answers-along}
+use Rattle.usb_session.proofs.Later.{later-lent}
 use Rattle.usb_session.proofs.session.Session.on_control.Goals as goal
 
 pub call_control-called-requires-clause-devices : goal.call_control-called-requires-clause-devices
@@ -26,3 +27,6 @@ pub returns-clause-spare : goal.returns-clause-spare
 returns-clause-spare c =
     spare-controlled c.args.self.now (made_of c.self.inside) c.args.steps c.lend_steps.new.self c.call_control-called.new.host c.rest.new.self c.self.view_is
     (lent_is c.self.inside.host _ _ _ c.lend_steps.ensures.steps c.into_vec.ensures.value) c.call_control-called.ensures.keeps c.rest.ensures.rest c.requires.room
+
+pub returns-clause-later : goal.returns-clause-later
+returns-clause-later c = later-lent _ c.lend_steps.new.self c.call_control-called.new.host c.rest.new.self c.self.view_is c.lend_steps.ensures.steps c.call_control-called.ensures.keeps.past c.rest.ensures.rest

@@ -8,6 +8,8 @@ use Rattle.usb_session_calls.proofs.SoundDevices.{device-of}
 use Rattle.usb_session_calls.proofs.NameLemmas.{found_at}
 use Rattle.usb_session_calls.proofs.Answering.{answers, answers-same}
 use Rattle.usb_session_calls.proofs.DeviceCalls.{called-sound, called-places, device-barred, device-gives}
+use Rattle.usb_kernel.proofs.Extends.{extends-same}
+use Rattle.usb_session.proofs.Later.{device-later}
 use Rattle.usb_session.proofs.session.Session.on_device.Goals as goal
 
 pub returns-in_default-clause-answered : goal.returns-in_default-clause-answered
@@ -34,3 +36,12 @@ returns-clause-spare c =
     let there = device-of c.self.inside.host c.in-Some.device.now (c.self.invariant.devices_stand c.args.name c.in-Some.device.now named) in
     subst (λ (v : SessionState). v.host.kernel.spare ≤ c.call_device.new.host.kernel.spare + device_places c.args.call) c.self.view_is
     (called-places c.self.inside.host c.call_device.new.host c.args.call (device_with c.in-Some.device.now there.0) (c.call_device.ensures.host there.0 there.1))
+
+pub returns-in_default-clause-later : goal.returns-in_default-clause-later
+returns-in_default-clause-later c = extends-same c.args.self.now.host.kernel.past
+
+pub returns-clause-later : goal.returns-clause-later
+returns-clause-later c =
+    let named = found_at _ _ _ _ _ _ c.deref.ensures.value c.number.ensures.value c.open_at.ensures.value (ap option_copied c.in-Some.is) in
+    let there = device-of c.self.inside.host c.in-Some.device.now (c.self.invariant.devices_stand c.args.name c.in-Some.device.now named) in
+    device-later c.call_device.new.host c.args.call (device_with c.in-Some.device.now there.0) c.self.view_is (c.call_device.ensures.host there.0 there.1)

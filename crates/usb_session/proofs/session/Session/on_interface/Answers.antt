@@ -5,6 +5,8 @@ use Rattle.usb_session.specs.SessionFacts.{made_of}
 use Rattle.usb_session_calls.proofs.NameLemmas.{found_at}
 use Rattle.usb_session_calls.proofs.Answering.{answers, answers-same}
 use Rattle.usb_session_calls.proofs.InterfaceCalls.{called-sound, called-spare, interface-barred, interface-gives}
+use Rattle.usb_kernel.proofs.Extends.{extends-same}
+use Rattle.usb_session.proofs.Later.{later-past, interface-past}
 use Rattle.usb_session.proofs.session.Session.on_interface.Goals as goal
 
 pub returns-in_default-clause-answered : goal.returns-in_default-clause-answered
@@ -29,3 +31,11 @@ returns-clause-spare c =
     let stands = c.self.invariant.interfaces_stand c.args.name c.in-Some.interface.now (found_at _ _ _ _ _ _ c.deref.ensures.value c.number.ensures.value c.open_at.ensures.value (ap option_copied c.in-Some.is)) in
     called-spare c.self.inside.host c.call_interface.new.host c.args.call c.in-Some.interface.now stands.claim stands.at (c.call_interface.ensures.host stands.claim stands.at)
     ∙ ap (λ (v : SessionState). v.host.kernel.spare) c.self.view_is
+
+pub returns-in_default-clause-later : goal.returns-in_default-clause-later
+returns-in_default-clause-later c = extends-same c.args.self.now.host.kernel.past
+
+pub returns-clause-later : goal.returns-clause-later
+returns-clause-later c =
+    let stands = c.self.invariant.interfaces_stand c.args.name c.in-Some.interface.now (found_at _ _ _ _ _ _ c.deref.ensures.value c.number.ensures.value c.open_at.ensures.value (ap option_copied c.in-Some.is)) in
+    later-past _ c.self.view_is (interface-past c.self.inside.host c.call_interface.new.host c.args.call c.in-Some.interface.now stands.claim stands.at (c.call_interface.ensures.host stands.claim stands.at))

@@ -10,6 +10,8 @@ use Rattle.usb_session_calls.proofs.LentHosts.{stands-lent, line-same}
 use Rattle.usb_session.proofs.TakenOut.{PutBack, put_back, free_again, same-none, back-changes, answers-none, answers-writer}
 use Rattle.usb_session.proofs.Replaced.{writer_endpoint, writer-replaces}
 use Rattle.usb_session.proofs.Lent.{lent_is, sound-lent, sound-stepped, answers-along, spare-lent}
+use Rattle.usb_kernel.proofs.Extends.{extends-same}
+use Rattle.usb_session.proofs.Later.{later-lent}
 use Rattle.usb_session.proofs.session.Session.on_writer.Goals as goal
 use Rattle.usb_session.proofs.session.Session.on_writer.Goals.{After-rest-2, Joined-call}
 
@@ -65,3 +67,9 @@ returns-clause-answered c =
 pub returns-clause-spare : goal.returns-clause-spare
 returns-clause-spare c =
     spare-lent (made_of c.self.inside) _ _ _ _ _ c.self.view_is (lent_is c.self.inside.host _ _ _ c.lend_steps.ensures.steps c.into_vec.ensures.value) c.call_writer-called.ensures.keeps.line c.rest-2.ensures.rest c.requires.room
+
+pub returns-in_default-clause-later : goal.returns-in_default-clause-later
+returns-in_default-clause-later c = later-lent _ c.lend_steps.new.self c.lend_steps.new.self c.rest.new.self c.self.view_is c.lend_steps.ensures.steps (extends-same c.lend_steps.new.self.kernel.past) c.rest.ensures.rest
+
+pub returns-clause-later : goal.returns-clause-later
+returns-clause-later c = later-lent _ c.lend_steps.new.self c.call_writer-called.new.host c.rest-2.new.self c.self.view_is c.lend_steps.ensures.steps c.call_writer-called.ensures.keeps.past c.rest-2.ensures.rest

@@ -6,6 +6,9 @@ use Rattle.usb_session.specs.SessionFacts.{made_of}
 use Rattle.usb_session_calls.proofs.NameLemmas.{free_at}
 use Rattle.usb_session_calls.proofs.Answering.{answers, answers-same}
 use Rattle.usb_session.proofs.OpenCode.{open-sound, open-left, open-gives, open-refused, open-barred, open-spare}
+use Rattle.usb_kernel.proofs.Extends.{extends-same}
+use Rattle.usb_session.proofs.Later.{later-past}
+use Rattle.usb_session.proofs.OpenCode.{open-past}
 use Rattle.usb_session.proofs.session.Session.open.Goals as goal
 
 pub returns-then-not-is_free-clause-answered : goal.returns-then-not-is_free-clause-answered
@@ -49,3 +52,15 @@ returns-in-Err-Cause-clause-spare c =
 pub returns-in-Err-Memory-clause-spare : goal.returns-in-Err-Memory-clause-spare
 returns-in-Err-Memory-clause-spare c =
     open-spare {A = ℕ} c.self.inside.host c.open_at.new.host c.args.bus c.args.address (Err c.in-Err-Memory.field-0) c.in-Err-Memory.ensures.host ∙ ap (λ (v : SessionState). v.host.kernel.spare) c.self.view_is
+
+pub returns-then-not-is_free-clause-later : goal.returns-then-not-is_free-clause-later
+returns-then-not-is_free-clause-later c = extends-same c.args.self.now.host.kernel.past
+
+pub returns-in-Ok-clause-later : goal.returns-in-Ok-clause-later
+returns-in-Ok-clause-later c = later-past _ c.self.view_is (open-past c.self.inside.host c.open_at.new.host c.args.bus c.args.address (Ok c.in-Ok.device) c.in-Ok.ensures.host)
+
+pub returns-in-Err-Cause-clause-later : goal.returns-in-Err-Cause-clause-later
+returns-in-Err-Cause-clause-later c = later-past _ c.self.view_is (open-past {A = ℕ} c.self.inside.host c.open_at.new.host c.args.bus c.args.address (Err c.in-Err-Cause.field-0) c.in-Err-Cause.ensures.host)
+
+pub returns-in-Err-Memory-clause-later : goal.returns-in-Err-Memory-clause-later
+returns-in-Err-Memory-clause-later c = later-past _ c.self.view_is (open-past {A = ℕ} c.self.inside.host c.open_at.new.host c.args.bus c.args.address (Err c.in-Err-Memory.field-0) c.in-Err-Memory.ensures.host)

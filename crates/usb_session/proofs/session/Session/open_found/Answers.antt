@@ -5,6 +5,8 @@ use Rattle.usb_session_calls.specs.SessionState.{SessionState, IsSound}
 use Rattle.usb_session.specs.SessionFacts.{made_of}
 use Rattle.usb_session_calls.proofs.Answering.{answers}
 use Rattle.usb_session.proofs.OpenCode.{open-sound, open-left, open-gives, open-refused, open-spare}
+use Rattle.usb_session.proofs.Later.{later-past}
+use Rattle.usb_session.proofs.OpenCode.{open-past}
 use Rattle.usb_session.proofs.session.Session.open_found.Goals as goal
 
 pub invariant_of-self : goal.invariant_of-self
@@ -43,3 +45,12 @@ returns-in-Err-Cause-clause-spare c =
 pub returns-in-Err-Memory-clause-spare : goal.returns-in-Err-Memory-clause-spare
 returns-in-Err-Memory-clause-spare c =
     open-spare {A = ℕ} c.self.inside.host c.open.new.host c.args.found.now.numbers.busnum c.args.found.now.numbers.address (Err c.in-Err-Memory.field-0) c.in-Err-Memory.ensures.host ∙ ap (λ (v : SessionState). v.host.kernel.spare) c.self.view_is
+
+pub returns-in-Ok-clause-later : goal.returns-in-Ok-clause-later
+returns-in-Ok-clause-later c = later-past _ c.self.view_is (open-past c.self.inside.host c.open.new.host c.args.found.now.numbers.busnum c.args.found.now.numbers.address (Ok c.in-Ok.device) c.in-Ok.ensures.host)
+
+pub returns-in-Err-Cause-clause-later : goal.returns-in-Err-Cause-clause-later
+returns-in-Err-Cause-clause-later c = later-past _ c.self.view_is (open-past {A = ℕ} c.self.inside.host c.open.new.host c.args.found.now.numbers.busnum c.args.found.now.numbers.address (Err c.in-Err-Cause.field-0) c.in-Err-Cause.ensures.host)
+
+pub returns-in-Err-Memory-clause-later : goal.returns-in-Err-Memory-clause-later
+returns-in-Err-Memory-clause-later c = later-past _ c.self.view_is (open-past {A = ℕ} c.self.inside.host c.open.new.host c.args.found.now.numbers.busnum c.args.found.now.numbers.address (Err c.in-Err-Memory.field-0) c.in-Err-Memory.ensures.host)

@@ -8,6 +8,9 @@ use Rattle.usb_session_calls.proofs.Answering.{answers}
 use Rattle.usb_session.proofs.FutureCalls.{none-gives, polled-sound, polled-spare, polled-gives, pending-same, pending-sound, pending-gives}
 use Rattle.usb_session.proofs.FutureCloses.{future-sound_same}
 use Rattle.usb_session_calls.proofs.NameLemmas.{freed-free}
+use Rattle.usb_session.proofs.Later.{later-same, later-past}
+use Rattle.usb_device_host.specs.HostState.{HostState}
+use Rattle.usb_session.proofs.FutureCalls.{polled-later}
 use Rattle.usb_session.proofs.session.Session.poll_future.Goals as goal
 
 pub invariant_of-self : goal.invariant_of-self
@@ -59,3 +62,12 @@ returns-in_default-poll-clause-answered c =
     (pending-same (made_of c.self.inside) c.take_at.new.names.items c.put_at.new.names.items c.number-number.result c.in-Some.future c.poll.new.self
     (sym c.take_at.ensures.taken ∙ c.in-Some.is) c.take_at.ensures.rest c.in_default-poll.ensures.same c.put_at.ensures.after)
     c.in_default-poll.ensures.waits)
+
+pub returns-in_default-clause-later : goal.returns-in_default-clause-later
+returns-in_default-clause-later c = later-same c.self.view_is
+
+pub returns-clause-later : goal.returns-clause-later
+returns-clause-later c = polled-later c.poll.new.host c.close.new.host c.in-Some.future c.poll.new.self c.self.view_is c.in-Ready.ensures.taken c.in-Ready.ensures.spent c.close.ensures.host
+
+pub returns-in_default-poll-clause-later : goal.returns-in_default-poll-clause-later
+returns-in_default-poll-clause-later c = later-past _ c.self.view_is (ap (λ (h : HostState). h.kernel.past) c.in_default-poll.ensures.same_host)

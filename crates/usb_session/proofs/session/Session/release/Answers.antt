@@ -10,6 +10,8 @@ use Rattle.usb_session_calls.proofs.HandleHosts.{closed-keeps, spare-beside}
 use Rattle.usb_session_calls.proofs.Handled.{sound-closed}
 use Rattle.usb_session.proofs.HandleCloses.{interface-sound_same}
 use Rattle.usb_session_calls.proofs.InterfaceHandles.{release-none, release-gives, release-refused, sound-given_back, given_back, alone-answer, shared-answer}
+use Rattle.usb_device_host.specs.HostState.{HostState}
+use Rattle.usb_session.proofs.Later.{later-same, later-past, past-beside}
 use Rattle.usb_session.proofs.session.Session.release.Goals as goal
 use Rattle.usb_session.proofs.session.Session.release.Goals.{After-write_ok, After-write_error}
 
@@ -65,3 +67,12 @@ returns-in-Err-clause-answered c =
     let here : named c.self.inside.interfaces.items c.args.name ≡ Some c.in-Some.interface = rw (← c.number-number.ensures.value) (sym c.take_at.ensures.taken ∙ c.in-Some.is) in
     answers _ _ _ c.self.view_is (rw c.in-Err.error-is at c.write_error.ensures.text)
     (λ state r. release-refused (made_of c.self.inside) state c.release.new.host c.put_at.new.names.items c.args.name c.in-Some.interface releases.claim c.in-Err.error here releases.at answer.0 answer.2 releases.err (back c) r)
+
+pub returns-in_default-clause-later : goal.returns-in_default-clause-later
+returns-in_default-clause-later c = later-same c.self.view_is
+
+pub returns-in-Ok-clause-later : goal.returns-in-Ok-clause-later
+returns-in-Ok-clause-later c = later-past _ c.self.view_is (past-beside c.self.inside.host c.release.new.host _ c.in-Ok.ensures.releases.ok (closed-keeps c.self.inside.host c.in-Some.interface.key))
+
+pub returns-in-Err-clause-later : goal.returns-in-Err-clause-later
+returns-in-Err-clause-later c = later-past _ c.self.view_is (ap (λ (h : HostState). h.kernel.past) c.in-Err.ensures.releases.err)

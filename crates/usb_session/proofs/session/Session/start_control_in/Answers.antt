@@ -8,6 +8,10 @@ use Rattle.usb_session_calls.proofs.Answering.{answers, answers-same}
 use Rattle.usb_session_calls.proofs.ControlCode.{number-shown}
 use Rattle.usb_session.proofs.FutureCalls.{start-sound, start-spare, start-gives, start-none, start-used, start-bars}
 use Rattle.usb_session_calls.proofs.NameLemmas.{free_at}
+use Rattle.usb_kernel.proofs.Extends.{extends-same}
+use Rattle.usb_session.proofs.Later.{later-past}
+use Rattle.usb_device_host.specs.HostState.{HostState}
+use Rattle.usb_session.proofs.FutureCalls.{start-later}
 use Rattle.usb_session.proofs.session.Session.start_control_in.Goals as goal
 
 pub returns-then-bars_control-clause-answered : goal.returns-then-bars_control-clause-answered
@@ -47,3 +51,18 @@ pub returns-clause-spare : goal.returns-clause-spare
 returns-clause-spare c =
     start-spare c.self.inside.host c.start_in_open.new.host (request_for c.args.setup c.args.wanted) c.args.timeout (number_of_target c.self.inside.host c.deref-2.result.now c.deref-3.result.now c.args.target) c.in_ok-future.ensures.ok
     ∙ ap (λ (v : SessionState). v.host.kernel.spare) c.self.view_is
+
+pub returns-then-bars_control-clause-later : goal.returns-then-bars_control-clause-later
+returns-then-bars_control-clause-later c = extends-same c.args.self.now.host.kernel.past
+
+pub returns-then-not-is_free-clause-later : goal.returns-then-not-is_free-clause-later
+returns-then-not-is_free-clause-later c = extends-same c.args.self.now.host.kernel.past
+
+pub returns-in_default-clause-later : goal.returns-in_default-clause-later
+returns-in_default-clause-later c = start-later c.start_in_open.new.host (request_for c.args.setup c.args.wanted) c.args.timeout (number_of_target c.self.inside.host c.deref-2.result.now c.deref-3.result.now c.args.target) c.self.view_is c.in_ok-future.ensures.ok
+
+pub returns-clause-later : goal.returns-clause-later
+returns-clause-later c = start-later c.start_in_open.new.host (request_for c.args.setup c.args.wanted) c.args.timeout (number_of_target c.self.inside.host c.deref-2.result.now c.deref-3.result.now c.args.target) c.self.view_is c.in_ok-future.ensures.ok
+
+pub returns-in_err-future-clause-later : goal.returns-in_err-future-clause-later
+returns-in_err-future-clause-later c = later-past _ c.self.view_is (ap (λ (h : HostState). h.kernel.past) c.in_err-future.ensures.err)

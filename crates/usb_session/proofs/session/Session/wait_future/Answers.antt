@@ -9,6 +9,9 @@ use Rattle.usb_session_calls.proofs.ControlCode.{spare-controlled}
 use Rattle.usb_session_calls.proofs.ControlHosts.{keeps-same}
 use Rattle.usb_session.proofs.FutureCalls.{wait-stands, waited-sound, waited-spare, waited-gives, wait-none_sound, none-gives}
 use Rattle.usb_session.proofs.Lent.{lent_is, answers-along}
+use Rattle.usb_kernel.proofs.Extends.{extends-same}
+use Rattle.usb_session.proofs.Later.{later-lent}
+use Rattle.usb_session.proofs.FutureCalls.{waited-later}
 use Rattle.usb_session.proofs.session.Session.wait_future.Goals as goal
 
 pub invariant_of-self : goal.invariant_of-self
@@ -54,3 +57,9 @@ pub returns-clause-spare : goal.returns-clause-spare
 returns-clause-spare c =
     waited-spare c.args.self.now (made_of c.self.inside) c.args.steps c.lend_steps.new.self c.wait-answer.new.host c.rest-2.new.self c.number.result c.in-Some.future c.self.invariant c.self.view_is
     (lent_is c.self.inside.host _ _ _ c.lend_steps.ensures.steps c.into_vec.ensures.value) (sym c.take_at.ensures.taken ∙ c.in-Some.is) c.wait-answer.ensures.host c.rest-2.ensures.rest c.requires.room
+
+pub returns-in_default-clause-later : goal.returns-in_default-clause-later
+returns-in_default-clause-later c = later-lent _ c.lend_steps.new.self c.lend_steps.new.self c.rest.new.self c.self.view_is c.lend_steps.ensures.steps (extends-same c.lend_steps.new.self.kernel.past) c.rest.ensures.rest
+
+pub returns-clause-later : goal.returns-clause-later
+returns-clause-later c = waited-later c.args.self.now (made_of c.self.inside) _ c.lend_steps.new.self c.wait-answer.new.host c.rest-2.new.self c.number.result c.in-Some.future c.self.invariant c.self.view_is c.lend_steps.ensures.steps (sym c.take_at.ensures.taken ∙ c.in-Some.is) c.wait-answer.ensures.host c.rest-2.ensures.rest

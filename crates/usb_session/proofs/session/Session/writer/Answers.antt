@@ -12,6 +12,8 @@ use Rattle.usb_session.specs.SessionFacts.{made_of}
 use Rattle.usb_session.proofs.TakenOut.{free_again, same-none}
 use Rattle.usb_session.proofs.Moves.{rounded-small, put_same}
 use Rattle.usb_session.proofs.WriterMoves.{made-sound, writer-gives, writer-used, writer-none, writer-in}
+use Rattle.usb_kernel.proofs.Extends.{extends-same}
+use Rattle.usb_session.proofs.Later.{later-same}
 use Rattle.usb_session.proofs.session.Session.writer.Goals as goal
 
 -- the writer's name is in use
@@ -78,3 +80,15 @@ returns-in-Err-clause-answered c =
     (sym (put_same _ _ _ c.number-number.result c.in-Some.endpoint (sym c.take_at.ensures.taken ∙ c.in-Some.is) c.take_at.ensures.rest
     (c.put_at-in-Err.ensures.after ∙ ap (set_name c.take_at.new.names.items c.number-number.result) c.in-Err.ensures.back)))
     (writer-in (made_of c.self.inside) c.number-number.result c.number-name.result c.args.transfer_size c.in-Some.endpoint state (sym c.take_at.ensures.taken ∙ c.in-Some.is) (c.in-Err.ensures.other tt) r)))
+
+pub returns-then-not-is_free-clause-later : goal.returns-then-not-is_free-clause-later
+returns-then-not-is_free-clause-later c = extends-same c.args.self.now.host.kernel.past
+
+pub returns-in_default-clause-later : goal.returns-in_default-clause-later
+returns-in_default-clause-later c = later-same c.self.view_is
+
+pub returns-in-Ok-clause-later : goal.returns-in-Ok-clause-later
+returns-in-Ok-clause-later c = later-same c.self.view_is
+
+pub returns-in-Err-clause-later : goal.returns-in-Err-clause-later
+returns-in-Err-clause-later c = later-same c.self.view_is
