@@ -30,7 +30,8 @@ use Rattle.usb_session.specs.Below.{below}
 use Rattle.usb_session.specs.Futures.{with_future}
 use Rattle.usb_session.specs.Ends.{readers_closed, writers_closed, endpoints_closed, futures_closed, all_closed}
 use Rattle.usb_session.specs.Output.{start}
-use Rattle.usb_session.specs.Accounts.{Covered, IsAwaited, Accounted, StartIsAccounted, AnswerKeepsAccounts, CloseKeepsAccounts}
+use Rattle.usb_session_calls.specs.HeldTickets.{Covered, IsAwaited}
+use Rattle.usb_session.specs.Accounts.{Accounted, StartIsAccounted, AnswerKeepsAccounts, CloseKeepsAccounts}
 use Rattle.usb_session.specs.Served.{ClosedEndpoint}
 use Rattle.usb_session_calls.proofs.NameLemmas.{free-none, named-freed_other, named-set, named-set_other}
 use Rattle.usb_session_calls.proofs.EndpointNameLemmas.{Changed, cases_name}
@@ -47,19 +48,23 @@ pub accounted-start : StartIsAccounted
 unfolding start
 accounted-start items = record { held = λ t key own. absurd (none-some key own); count = refl }
 
+-- a ticket is pending at the endpoint of a key, as the state has it
+abbrev CoveredBy : (EndpointName → Option Endpoint) → ℕ → ℕ → Type 0
+CoveredBy opened t key = Covered (λ (x : Endpoint). x.state) opened t key
+
 -- a ticket is pending at an endpoint that is open under a name, or that of a future
 abbrev Has : State → ℕ → ℕ → Type 0
-Has state t key = Covered (endpoint_under state) t key ⊎ IsAwaited state.futures t key
+Has state t key = CoveredBy (endpoint_under state) t key ⊎ IsAwaited state.futures t key
 
 either : {A B C D : Type 0} → (A → C) → (B → D) → A ⊎ B → C ⊎ D
 either f g (inl a) = inl (f a)
 either f g (inr b) = inr (g b)
 
 -- so it is where what covers it covers it still, and the futures are the same
-still-awaited : {old new : EndpointName → Option Endpoint} {before after : List (Option FutureState)} {t key : ℕ} → after ≡ before → (Covered old t key → Covered new t key) → Covered old t key ⊎ IsAwaited before t key → Covered new t key ⊎ IsAwaited after t key
+still-awaited : {old new : EndpointName → Option Endpoint} {before after : List (Option FutureState)} {t key : ℕ} → after ≡ before → (CoveredBy old t key → CoveredBy new t key) → CoveredBy old t key ⊎ IsAwaited before t key → CoveredBy new t key ⊎ IsAwaited after t key
 still-awaited {t = t} {key} futures covers has = either covers (subst (λ l. IsAwaited l t key) (sym futures)) has
 
-covered-same : {old new : EndpointName → Option Endpoint} {t key : ℕ} (c : Covered old t key) → new c.name ≡ old c.name → Covered new t key
+covered-same : {old new : EndpointName → Option Endpoint} {t key : ℕ} (c : CoveredBy old t key) → new c.name ≡ old c.name → CoveredBy new t key
 covered-same c same = record { name = c.name; entry = c.entry; at = same ∙ c.at; key_is = c.key_is; in_pending = c.in_pending }
 
 accounted-quiet : {state next : State} → Quiet state next → Accounted state → Accounted next
@@ -70,7 +75,7 @@ accounted-quiet {state} {next} quiet a =
     }
 
 -- an endpoint is open under a name under which none was
-covered-set : {old new : EndpointName → Option Endpoint} {e : EndpointName} {o : Option Endpoint} {t key : ℕ} → old e ≡ None → Changed old new e o → Covered old t key → Covered new t key
+covered-set : {old new : EndpointName → Option Endpoint} {e : EndpointName} {o : Option Endpoint} {t key : ℕ} → old e ≡ None → Changed old new e o → CoveredBy old t key → CoveredBy new t key
 covered-set {old} {new} {e} free changed c =
     covered-same c (changed.others c.name (λ same. none-some c.entry (sym free ∙ ap old (sym same) ∙ c.at)))
 
@@ -79,10 +84,10 @@ accounted-open e x free changes a =
     at-host Accounted changes (record { held = λ t key own. still-awaited changes.futures (covered-set free changes.endpoints) (a.held t key own); count = a.count })
 
 -- an endpoint was called, and has the ticket still
-covered-entry : {opened : EndpointName → Option Endpoint} {t key : ℕ} (c : Covered opened t key) (e : EndpointName) (h : Endpoint) → opened e ≡ Some h → c.name ≡ e → c.entry ≡ h
+covered-entry : {opened : EndpointName → Option Endpoint} {t key : ℕ} (c : CoveredBy opened t key) (e : EndpointName) (h : Endpoint) → opened e ≡ Some h → c.name ≡ e → c.entry ≡ h
 covered-entry {opened} c e h here same = same_Some c.entry h (sym c.at ∙ ap opened same ∙ here)
 
-covered-now : {old new : EndpointName → Option Endpoint} {t key : ℕ} (c : Covered old t key) (e d : EndpointName) (h g : Endpoint) → old e ≡ Some h → new d ≡ Some g → g.state.key ≡ h.state.key → (Contains h.state.pending t → Contains g.state.pending t) → c.name ≡ e → Covered new t key
+covered-now : {old new : EndpointName → Option Endpoint} {t key : ℕ} (c : CoveredBy old t key) (e d : EndpointName) (h g : Endpoint) → old e ≡ Some h → new d ≡ Some g → g.state.key ≡ h.state.key → (Contains h.state.pending t → Contains g.state.pending t) → c.name ≡ e → CoveredBy new t key
 covered-now {t = t} c e d h g here now same_key stays same =
     let entry = covered-entry c e h here same in
     record {
@@ -93,7 +98,7 @@ covered-now {t = t} c e d h g here now same_key stays same =
       in_pending = stays (subst (λ (x : Endpoint). Contains x.state.pending t) entry c.in_pending);
     }
 
-covered-change : {old new : EndpointName → Option Endpoint} {t key : ℕ} (e : EndpointName) (h g : Endpoint) → old e ≡ Some h → Changed old new e (Some g) → g.state.key ≡ h.state.key → (Contains h.state.pending t → Contains g.state.pending t) → Covered old t key → Covered new t key
+covered-change : {old new : EndpointName → Option Endpoint} {t key : ℕ} (e : EndpointName) (h g : Endpoint) → old e ≡ Some h → Changed old new e (Some g) → g.state.key ≡ h.state.key → (Contains h.state.pending t → Contains g.state.pending t) → CoveredBy old t key → CoveredBy new t key
 covered-change e h g here changed same_key stays c =
     elim (cases_name c.name e) [
       | inl same ↦ covered-now c e e h g here changed.here same_key stays same
@@ -136,7 +141,7 @@ accounted-take {state} e t ts h here front changes a =
     })
 
 -- an endpoint is closed, and holds nothing any more
-covered-freed : {old new : EndpointName → Option Endpoint} {t key : ℕ} (e : EndpointName) (h : Endpoint) → old e ≡ Some h → Changed old new e None → (Contains h.state.pending t → ⊥) → Covered old t key → Covered new t key
+covered-freed : {old new : EndpointName → Option Endpoint} {t key : ℕ} (e : EndpointName) (h : Endpoint) → old e ≡ Some h → Changed old new e None → (Contains h.state.pending t → ⊥) → CoveredBy old t key → CoveredBy new t key
 covered-freed {t = t} e h here changed gone c =
     elim (cases_name c.name e) [
       | inl same ↦ absurd (gone (subst (λ (x : Endpoint). Contains x.state.pending t) (covered-entry c e h here same) c.in_pending))
@@ -211,7 +216,7 @@ accounted-free state n f host here parts a =
 -- an endpoint goes to another name, which was free
 accounted-move : {state next : State} (from to : EndpointName) (h g : Endpoint) → endpoint_under state from ≡ Some h → endpoint_under state to ≡ None → SameTickets h g → MovesTo state next from to g → Accounted state → Accounted next
 accounted-move {state} {next} from to h g here free same moved a =
-    let covered : (t key : ℕ) → Covered (endpoint_under state) t key → Covered (endpoint_under next) t key = λ t key c. elim (cases_name c.name from) [
+    let covered : (t key : ℕ) → CoveredBy (endpoint_under state) t key → CoveredBy (endpoint_under next) t key = λ t key c. elim (cases_name c.name from) [
       | inl at ↦ covered-now c from to h g here moved.put.endpoints.here same.key (subst (λ (l : List ℕ). Contains l t) (sym same.pending)) at
       | inr away ↦
           let off : c.name ≢ to = λ is. none-some c.entry (sym free ∙ ap (endpoint_under state) (sym is) ∙ c.at) in

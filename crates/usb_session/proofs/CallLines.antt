@@ -1,6 +1,6 @@
 -- Each call is answered by a line that is not empty.
-use Rattle.std.proofs.Common.{◌≡◌, ◌≢◌, ℕ, Bool, true, false, List, [], ◌∷◌, map, slice_get, length, take, ◌-◌, Option, Some, None, Result, Ok, Err, refl, ap, sym, ◌∙◌, subst, inl, inr, ◌⊎◌}
-use Rattle.std.specs.Prelude.{not, ◌&&◌, ◌||◌, nat_lt, All, if◌then◌else◌}
+use Rattle.std.proofs.Common.{◌≡◌, ◌≢◌, ℕ, Bool, true, false, List, [], ◌∷◌, map, slice_get, length, take, ◌-◌, Option, Some, None, Result, Ok, Err, refl, ap, ◌∙◌, inl, inr, ◌⊎◌}
+use Rattle.std.specs.Prelude.{◌||◌, nat_lt, if◌then◌else◌}
 use Rattle.std.specs.Option.{option_map}
 use Rattle.std.proofs.lemmas.List.Elements.{All-head}
 use Rattle.futures.specs.declared.task.Poll.{Poll}
@@ -61,7 +61,7 @@ use Rattle.usb_script_lines.specs.declared.item.Item.TheVariants as lines
 use Rattle.usb_script_lines.specs.ItemKinds.{is_call, steps_in}
 use Rattle.usb_script_words.specs.declared.framing.Framing.{Framing}
 use Rattle.usb_script_words.specs.declared.framing.Framing.TheVariants.{UntilShort}
-use Rattle.usb_session_text.specs.Calls.{ok_line, condition_line, error_line, result_line}
+use Rattle.usb_session_text.specs.Calls.{condition_line, error_line, result_line}
 use Rattle.usb_session_text.specs.Completions.{count_line, now_line, done_line, polled_line, waited_line}
 use Rattle.usb_session_text.specs.Controls.{pending_line, data_line, failed_line, descriptor_failed_line, received_line, sent_line, descriptor_line, languages_told, languages_line, string_told, string_line}
 use Rattle.usb_session_text.specs.Descriptors.{descriptors_line, setting_words, class_words}
@@ -100,7 +100,6 @@ use Rattle.usb_session_calls.specs.declared.call.WriterCall.{WriterCall}
 use Rattle.usb_session_calls.specs.declared.call.WriterCall.TheVariants as writers
 use Rattle.usb_session_calls.specs.declared.call.ControlCall.{ControlCall}
 use Rattle.usb_session_calls.specs.declared.call.ControlCall.TheVariants as controls
-use Rattle.usb_session_calls.specs.declared.call.FutureCall.{FutureCall}
 use Rattle.usb_session_calls.specs.State.{State, Endpoint, Reader, Writer, tickets_of, with_host}
 use Rattle.usb_session_calls.specs.Answer.{Answer, answer_with, condition_answer, ok_answer, error_answer, at_host, if_open}
 use Rattle.usb_session_calls.specs.Steps.{with_steps, stepped_all}
@@ -138,9 +137,7 @@ use Rattle.usb_session.specs.Answers.{answer}
 use Rattle.usb_session.specs.Output.{start, behind}
 use Rattle.usb_session.specs.ControlAnswers.{ControlAnswer, told_of, listed as tickets_listed, answered_future, future_gone, answered_by}
 use Rattle.usb_session.specs.Served.{control_ticket_by}
-use Rattle.usb_session.proofs.StepLemmas.{Inv}
 use Rattle.usb_session.proofs.HandleLemmas.{inv-start, inv-of}
-use Rattle.usb_session.proofs.FuturesAwaited.{AllAwait}
 use Rattle.usb_session.proofs.ControlCame.{Came, Tells, answer-tells}
 use Rattle.usb_session.proofs.ControlsLaw.{none-await, await-behind}
 

@@ -37,6 +37,7 @@ use Rattle.usb_session_calls.proofs.SubmitCode.{line-all_discarded}
 use Rattle.usb_session.proofs.KeptNames.{kept-at, kept-none}
 use Rattle.usb_session.proofs.Replaced.{Replaces, reader_endpoint, writer_endpoint, own-replaces, reader-replaces, writer-replaces}
 use Rattle.usb_session.proofs.OrderLemmas.{before-past, left-past}
+use Rattle.usb_session_streams.proofs.AccountLemmas.{of-is, of-closed}
 
 line-all_abandoned : (h : HostState) (ts : List ℕ) → LineGoesOn h (all_abandoned host_abandoned h ts)
 line-all_abandoned h [] = line-keeps h h (keeps-open h)
@@ -98,6 +99,7 @@ sound-closed_under s now es rs ws e x sound was gone bus others =
     sound-gone s now es rs ws e x sound was gone.counts (rw bus (keeps-closed s.host x sound.idle)) others
     (rw bus (none-closed s.host x))
     gone.changed (ap (λ (g : HostState). key_at g.endpoints x.key) bus ∙ key-closed s.host x)
+    (of-is s.host (after_close host_calls s.host x) now x.key x.pending [] [] bus refl (of-closed s.host x (sound.endpoints_stand e x was).key_is_open))
 
 -- the host is that of the state
 closed-host : (s : SessionState) (state : State) (now : HostState) (x y : EndpointState) → Represents s state → x ≡ y → now ≡ after_close host_calls s.host y → now ≡ after_close host_calls state.host x

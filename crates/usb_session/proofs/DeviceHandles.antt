@@ -20,6 +20,8 @@ use Rattle.usb_session_calls.proofs.Answering.{Gives, barred-gives}
 use Rattle.usb_session_calls.proofs.Called.{names-freed}
 use Rattle.usb_session_calls.proofs.CountedDevices.{count-opened, count-closed, devices-changed, stands-changed}
 use Rattle.usb_session_calls.proofs.SoundDevices.{sound-device}
+use Rattle.usb_device.proofs.OwnerLaw.{claims_stay_owned}
+use Rattle.usb_session_streams.proofs.AccountLemmas.{accounts-kept}
 
 -- one more handle is open
 cloned-here : (s : SessionState) (after : List (Option ℕ)) (n d key : ℕ) → IsSound s → named s.devices d ≡ Some key → is_free s.devices n ≡ true → after ≡ set_name s.devices n key → IsSound (record s { host = device_cloned s.host key; devices = after })
@@ -41,6 +43,7 @@ cloned-here s after n d key sound at free put =
     ap (count_by (is_device_of k)) put ∙ omega (arith, none, count-opened k s.devices n key free))
     sound.devices_counted)
     (held-device_cloned s.host key stands sound.devices_held)
+    (accounts-kept s.host now (claims_stay_owned.clone_device s.host key).kept refl refl)
 
 pub sound-device_cloned : (s : SessionState) (now : HostState) (after : List (Option ℕ)) (n d key : ℕ) → IsSound s → now ≡ device_cloned s.host key → named s.devices d ≡ Some key → is_free s.devices n ≡ true → after ≡ set_name s.devices n key → IsSound (record s { host = now; devices = after })
 sound-device_cloned s now after n d key sound is at free put = rw is (cloned-here s after n d key sound at free put)
@@ -62,6 +65,7 @@ closed-here s after d key sound at rest =
     ap (count_by (is_device_of k)) rest ∙ omega (arith, none, count-closed k s.devices d key at))
     sound.devices_counted)
     (held-device_closed s.host key stands sound.devices_held)
+    (accounts-kept s.host now (claims_stay_owned.close_device s.host key).kept refl refl)
 
 pub sound-device_closed : (s : SessionState) (now : HostState) (after : List (Option ℕ)) (d key : ℕ) → IsSound s → named s.devices d ≡ Some key → after ≡ freed s.devices d → now ≡ device_closed s.host key → IsSound (record s { host = now; devices = after })
 sound-device_closed s now after d key sound at rest is = rw is (closed-here s after d key sound at rest)

@@ -17,6 +17,11 @@ use Rattle.usb_device_host.specs.HostCalls.{host_discarded}
 use Rattle.usb_device_host.specs.HostTurns.{host_reaped}
 use Rattle.usb_device_host.proofs.CallFrames.{keeps-open}
 use Rattle.usb_device.proofs.ClosedLaw.{closed_is_empty}
+use Rattle.usb_device.specs.OwnerLaws.{ClaimsAreOwned, has_owner, is_owned_claim}
+use Rattle.usb_device.proofs.OwnerLaw.{claims_stay_owned}
+use Rattle.usb_device.proofs.OwnerLawLists.{any-found}
+use Rattle.usb_kernel.specs.ClaimLaws.{is_claimed}
+use Rattle.usb_device_host.specs.HostBus.{owner_at}
 use Rattle.usb_device_ledger.proofs.DeviceLemmas.{counts-same}
 use Rattle.usb_device.proofs.HeldDevices.{held-goes}
 use Rattle.usb_device_host.proofs.HostFrames.{uses-discarded, uses-reaped}
@@ -118,6 +123,38 @@ none-left s sound closed none key = by (value_at s.host.devices key) refl
         let held : is_held o ≡ true = sound.devices_held.held key o at in
         let gone : is_held o ≡ false = rw (handles, interfaces) refl in
         absurd (cc)
+
+-- nothing holds a ticket where nothing is open under a name
+pub none-holds : (s : SessionState) → IsSound s → ((e : EndpointName) → open_under s e ≡ None) → ((n : ℕ) → named s.futures n ≡ None) → (t : ℕ) → owner_at s.host.tickets t ≡ None
+none-holds s sound endpoints futures t = by (owner_at s.host.tickets t) refl
+  where
+    by : (o : Option ℕ) → owner_at s.host.tickets t ≡ o → owner_at s.host.tickets t ≡ None
+    by None is = is
+    by (Some key) is = elim (sound.tickets_named t key is) [
+      | inl c ↦ absurd (none-some c.entry (sym (endpoints c.name) ∙ c.at))
+      | inr w ↦ absurd (none-some w.future (sym (futures w.name) ∙ w.at))
+    ]
+
+-- an interface that is not there has no owner
+none-owned : (h : HostState) (d n : ℕ) → ((k : ℕ) → value_at h.interfaces k ≡ None) → has_owner h d n ≡ false
+none-owned h d n none = by (has_owner h d n) refl
+  where
+    gone : (k : ℕ) (o : Option ClaimedInterface) → slice_get h.interfaces k ≡ Some o → is_owned_claim h d n (0 + k, o) ≡ false
+    gone k None at = refl
+    gone k (Some c) at = absurd (none-some c (sym (none k) ∙ ap (option_and_then (λ v. v)) at))
+
+    by : (b : Bool) → has_owner h d n ≡ b → has_owner h d n ≡ false
+    by false is = is
+    by true is =
+        let found = any-found (is_owned_claim h d n) 0 h.interfaces is in
+        let no_ : false ≡ true = sym (gone found.place found.item found.at) ∙ found.passes in
+        absurd (cc)
+
+-- so at the end no interface is claimed
+pub none-claimed : (before now : HostState) → now ≡ finished before → ClaimsAreOwned before → ((k : ℕ) → value_at now.interfaces k ≡ None) → (d n : ℕ) → is_claimed now.kernel.devices d n ≡ false
+none-claimed before now done claims none d n =
+    let owned : ClaimsAreOwned now = subst ClaimsAreOwned (sym done) ((claims_stay_owned.finish before).kept.owned claims) in
+    owned.claimed d n ∙ none-owned now d n none
 
 -- the end opens nothing, and leaves the open devices
 discarded-line : (h : HostState) (n : ℕ) → LineGoesOn h (discarded_below h n)

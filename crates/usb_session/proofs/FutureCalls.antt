@@ -34,6 +34,9 @@ use Rattle.usb_session_calls.proofs.ControlHosts.{keeps-same, leaves-taken, leav
 use Rattle.usb_session_calls.proofs.FutureSessions.{sound-future_opened, sound-future_freed}
 use Rattle.usb_session_calls.proofs.NameLemmas.{freed-none, put-back}
 use Rattle.usb_session.proofs.Later.{later-by}
+use Rattle.usb_session_streams.specs.Accounts.{KeepsAccountsOf}
+use Rattle.usb_session_calls.proofs.FutureAccounts.{of-started}
+use Rattle.std.specs.List.{cons_option}
 
 -- the device that is found under a name
 pub started-future : (h : HostState) (given request : TransferData) (nanoseconds timeout : ℕ) (o : Option ℕ) (d : ℕ) (f : FutureState) → given ≡ request → nanoseconds ≡ timeout → o ≡ Some d → f ≡ fresh_future h given nanoseconds → Some f ≡ started_future h request timeout o
@@ -73,7 +76,8 @@ start-sound s now after n f request timeout o sound free put future is stands =
     subst (λ (h : HostState). IsSound (record s { host = h; futures = after })) (sym host)
     (sound-future_opened s then_ after n f (control_endpoint submission.endpoint) sound free put (ap (λ (z : FutureState). z.key) b.fresh)
     (subst (λ (z : FutureState). IsSome z.ticket) (sym b.fresh) refl) (subst (λ (h : HostState). StandsFuture h f) host stands)
-    (keeps-started s.host b.device request timeout sound.idle) (others-started s.host b.device request timeout f.key) (started-endpoints s.host submission))
+    (keeps-started s.host b.device request timeout sound.idle) (others-started s.host b.device request timeout f.key) (started-endpoints s.host submission)
+    (subst (λ (z : FutureState). KeepsAccountsOf s.host then_ z.key [] (cons_option z.ticket [])) (sym b.fresh) (of-started s.host b.device request timeout)))
 
 pub start-spare : (h now : HostState) (request : TransferData) (timeout : ℕ) (o : Option ℕ) → now ≡ started_host h request timeout o → now.kernel.spare ≡ h.kernel.spare
 start-spare h now request timeout o is = ap (λ (g : HostState). g.kernel.spare) is ∙ by o

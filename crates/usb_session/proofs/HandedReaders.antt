@@ -1,5 +1,5 @@
 -- Readers hand over the bytes of their tickets.
-use Rattle.std.proofs.Common.{◌≡◌, ◌∙◌, ℕ, List, [], ◌++◌, take, drop, take-append-drop, append-nil, append_assoc, Option, refl, ap, sym, subst}
+use Rattle.std.proofs.Common.{◌≡◌, ◌∙◌, ℕ, List, ◌++◌, take, drop, take-append-drop, append-nil, append_assoc, Option, refl, ap, sym, subst}
 use Rattle.std.specs.Prelude.{All}
 use Rattle.std.proofs.lemmas.List.Elements.{All-nil, All-append}
 use Rattle.usb_kernel.specs.declared.event.Event.{Event}

@@ -1,5 +1,5 @@
 -- The journal goes on over each call of a session, whatever it answers, and over its end.
-use Rattle.std.proofs.Common.{◌≡◌, ℕ, zero, suc, List, [], ◌∷◌, map, false, Option, Some, None, Result, refl, ap, sym, ◌∙◌, subst}
+use Rattle.std.proofs.Common.{◌≡◌, ℕ, zero, suc, List, [], ◌∷◌, map, false, Option, Some, None, refl, ap, sym, ◌∙◌, subst}
 use Rattle.std.specs.Option.{option_map}
 use Rattle.usb_device_tables.specs.History.{value_at}
 use Rattle.usb_kernel_devices.specs.declared.step.KernelStep.{KernelStep}
@@ -8,11 +8,8 @@ use Rattle.usb_kernel.specs.Extends.{Extends}
 use Rattle.usb_kernel.proofs.Extends.{extends-same, extends-trans}
 use Rattle.usb_device_endpoint.specs.BusState.{BusState}
 use Rattle.usb_device_endpoint.specs.EndpointState.{EndpointState}
-use Rattle.usb_device_endpoint.specs.Closes.{after_close}
 use Rattle.usb_device_ledger.specs.Entries.{ClaimedInterface}
 use Rattle.usb_device_host.specs.HostState.{HostState}
-use Rattle.usb_device_host.specs.HostBus.{bus_of}
-use Rattle.usb_device_host.specs.HostCalls.{host_calls}
 use Rattle.usb_device_host.specs.HostTurns.{host_rest}
 use Rattle.usb_device_host.specs.Finishes.{finished}
 use Rattle.usb_device_host.specs.EndpointOpens.{host_asked, with_endpoint}
@@ -38,11 +35,11 @@ use Rattle.usb_session_calls.specs.Readers.{reader_closed, reader_closed_at}
 use Rattle.usb_session_calls.specs.Writers.{writer_closed, writer_closed_at}
 use Rattle.usb_session_calls.specs.Steps.{stepped_all}
 use Rattle.usb_session_calls.specs.SessionState.{SessionState}
-use Rattle.usb_session_calls.specs.Relation.{Represents, session_of}
+use Rattle.usb_session_calls.specs.Relation.{Represents}
 use Rattle.usb_session.specs.Below.{below}
 use Rattle.usb_session.specs.Ends.{future_closed_at, future_closed_under, interface_closed_at, interface_closed, device_closed_at, name_closed, readers_closed, writers_closed, endpoints_closed, futures_closed, interfaces_closed, devices_closed, all_closed, ended}
 use Rattle.usb_session_calls.proofs.Answering.{host_is}
-use Rattle.usb_session_calls.proofs.DeviceHosts.{KeepsAside, asked-aside, speed-aside, configured-aside, reset-handles, detached-aside, attached-aside}
+use Rattle.usb_session_calls.proofs.DeviceHosts.{asked-aside, speed-aside, configured-aside, reset-handles, detached-aside, attached-aside}
 use Rattle.usb_session_calls.proofs.HandleHosts.{KeepsBeside, setting-keeps}
 use Rattle.usb_session.proofs.Does.{quiet-stepped}
 use Rattle.usb_session.proofs.OrderLemmas.{left-past}

@@ -29,6 +29,7 @@ use Rattle.usb_session_calls.proofs.ControlCode.{sound-controlled}
 use Rattle.usb_session_calls.proofs.ControlHosts.{keeps-same}
 use Rattle.usb_session_calls.proofs.NamedKeys.{OpensNone, none-goes, none-then}
 use Rattle.usb_session.proofs.Replaced.{Replaces}
+use Rattle.usb_session_streams.proofs.AccountLemmas.{of-lent}
 
 abbrev lent_host : HostState → List KernelStep → HostState
 lent_host host steps = record host { steps = steps }
@@ -65,7 +66,8 @@ sound-lent s steps at now last es rs ws e x y sound is was replaces keeps rest =
     let k = rw is at keeps in
     rw rest
     (sound-put s (host_rest now) es rs ws e x sound was replaces.counts (keeps-lent s.host now steps k.past k.line) (others-lent s.host now steps x.key k.others) (none-lent s.host now steps k.line)
-    y replaces.changed (stands-rested now y k.stands) k.key k.maximum)
+    y replaces.changed (stands-rested now y k.stands) k.key k.maximum
+    (of-lent s.host now steps x.key x.pending y.pending k.accounts))
 
 -- the session to which the steps are lent
 represents-lent : (s : SessionState) (steps : List KernelStep) (at : HostState) → at ≡ record s.host { steps = steps } → (state : State) → Represents s state → Represents (record s { host = at }) (with_steps state steps)

@@ -1,6 +1,7 @@
 -- An endpoint that is open moves to another name: it becomes a reader's or a writer's, or comes back.
 use Rattle.std.proofs.Common.{◌≡◌, ◌≢◌, ℕ, ◌<◌, ◌≤◌, arith, List, Option, Some, None, Bool, true, false, refl, ap, sym, ◌∙◌, subst, inl, inr, ◌⊎◌}
 use Rattle.std.specs.Prelude.{◌*◌, ◌-◌, ◌/◌, ◌+◌, ◌^◌, if◌then◌else◌}
+use Rattle.std.specs.List.{Contains}
 use Rattle.std.proofs.lemmas.Option.{none-some, same_Some}
 use Rattle.std.proofs.Math.Nat.{div-mul-le_self, suc-mul}
 use Rattle.std.proofs.Math.Numerals.{suc-eq-add-one}
@@ -16,6 +17,7 @@ use Rattle.usb_io.specs.Writers.{WriterState}
 use Rattle.usb_session_text.specs.Calls.{condition_line}
 use Rattle.usb_session_calls.specs.Names.{named, freed, set_name}
 use Rattle.usb_session_calls.specs.EndpointNames.{EndpointName}
+use Rattle.usb_session_calls.specs.HeldTickets.{Covered}
 use Rattle.usb_session_calls.specs.State.{State}
 use Rattle.usb_session_calls.specs.Submits.{has_direction}
 use Rattle.usb_session_calls.specs.Answer.{Answer, condition_answer, if_open}
@@ -54,6 +56,21 @@ is_under-moved old new p q x key moves n =
           elim (cases_name n.name q) [
             | inl same ↦ absurd (none-some n.entry (sym moves.free ∙ ap moves.mid (sym same) ∙ there))
             | inr other ↦ record { name = n.name; entry = n.entry; at = moves.put.others n.name other ∙ there; key_is = n.key_is }
+          ]
+    ]
+
+-- and what is pending at it still is
+covered-moved : (old new : EndpointName → Option EndpointState) (p q : EndpointName) (x : EndpointState) (t key : ℕ) → Moves old new p q x → Covered (λ z. z) old t key → Covered (λ z. z) new t key
+covered-moved old new p q x t key moves n =
+    elim (cases_name n.name p) [
+      | inl same ↦
+          let entry : x ≡ n.entry = same_Some x n.entry (sym moves.was ∙ ap old (sym same) ∙ n.at) in
+          record { name = q; entry = x; at = moves.put.here; key_is = ap (λ (z : EndpointState). z.key) entry ∙ n.key_is; in_pending = subst (λ (z : EndpointState). Contains z.pending t) (sym entry) n.in_pending }
+      | inr apart ↦
+          let there : moves.mid n.name ≡ Some n.entry = moves.gone.others n.name apart ∙ n.at in
+          elim (cases_name n.name q) [
+            | inl same ↦ absurd (none-some n.entry (sym moves.free ∙ ap moves.mid (sym same) ∙ there))
+            | inr other ↦ record { name = n.name; entry = n.entry; at = moves.put.others n.name other ∙ there; key_is = n.key_is; in_pending = n.in_pending }
           ]
     ]
 
@@ -102,6 +119,12 @@ sound-moved s es rs ws p q x sound counts moves =
         | inl here ↦ λ same. sound.futures_apart p n x f moves.was isf (sym (ap (λ (z : EndpointState). z.key) here.1) ∙ same)
         | inr there ↦ sound.futures_apart d n h f there.1 isf
       ];
+      tickets_named = λ t key own. elim (sound.tickets_named t key own) [
+        | inl c ↦ inl (covered-moved (open_under s) (open_under (with_open s s.host es rs ws)) p q x t key moves c)
+        | inr w ↦ inr w
+      ];
+      tickets_counted = sound.tickets_counted;
+      claims_owned = sound.claims_owned;
     }
 
 -- an endpoint has the direction of its address, and no other

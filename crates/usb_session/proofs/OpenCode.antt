@@ -28,6 +28,9 @@ use Rattle.usb_session_calls.proofs.CountedDevices.{devices-opened}
 use Rattle.usb_session_calls.proofs.SoundDevices.{sound-device}
 use Rattle.usb_session_calls.proofs.Called.{KeepsSession, sound-host}
 use Rattle.usb_session_calls.proofs.NamedKeys.{none-bus}
+use Rattle.usb_device.specs.OwnerLaws.{KeepsOwned}
+use Rattle.usb_device.proofs.OwnerLaw.{claims_stay_owned}
+use Rattle.usb_session_streams.proofs.AccountLemmas.{accounts-kept}
 use Rattle.usb_session_calls.proofs.Answering.{Gives, barred-gives}
 use Rattle.usb_session_calls.proofs.FutureLemmas.{past-same}
 
@@ -45,7 +48,9 @@ opened-keeps h now bus address error idle is refused =
 pub open-left : (s : SessionState) (now : HostState) (bus address : ℕ) (error : ErrorState) → IsSound s → open_key s.host bus address ≡ Err error → now ≡ host_opened s.host bus address → IsSound (record s { host = now })
 open-left s now bus address error sound refused is =
     let bus_is = ap bus_of (is ∙ opened-is s.host bus address) in
+    let made = is ∙ opened-is s.host bus address in
     sound-host s now sound (opened-keeps s.host now bus address error sound.idle is refused) (λ h stands. subst (λ (b : BusState). Stands b h) (sym bus_is) stands) (none-bus s.host now bus_is)
+    (accounts-kept s.host now (subst (KeepsOwned s.host) (sym is) (claims_stay_owned.open_device s.host bus address).kept) (ap (λ (g : HostState). g.tickets) made) (ap (λ (g : HostState). g.kernel.past) made))
 
 -- and one in which the device is open
 open-stands : (h : HostState) (now : List (Option OpenDevice)) (key d : ℕ) → OpensOne h now key → StandsDevice h d → value_at now d ≡ value_at h.devices d
@@ -68,6 +73,7 @@ open-here s after d key bus address sound tried stands free put =
     ])
     (devices-opened s.host now.devices s.devices after d key opens sound.devices_stand free put sound.devices_counted)
     (held-opened s.host bus address sound.devices_held)
+    (accounts-kept s.host now (claims_stay_owned.open_device s.host bus address).kept (ap (λ (g : HostState). g.tickets) made) (ap (λ (g : HostState). g.kernel.past) made))
 
 pub open-sound : (s : SessionState) (now : HostState) (after : List (Option ℕ)) (d key bus address : ℕ) → IsSound s → open_key s.host bus address ≡ Ok key → now ≡ host_opened s.host bus address → StandsDevice now key → is_free s.devices d ≡ true → after ≡ set_name s.devices d key → IsSound (record s { host = now; devices = after })
 open-sound s now after d key bus address sound tried is stands free put =

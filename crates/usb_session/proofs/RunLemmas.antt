@@ -13,9 +13,12 @@ use Rattle.usb_enum.specs.declared.hotplug.UdevPacket.{UdevPacket}
 use Rattle.usb_session_tree.specs.Trees.{tree_of}
 use Rattle.usb_session_tree.specs.Packets.{packets_of}
 use Rattle.usb_device_endpoint.specs.EndpointState.{EndpointState}
-use Rattle.usb_device_ledger.specs.Entries.{ClaimedInterface, HostEndpoint}
+use Rattle.usb_device_ledger.specs.Entries.{ClaimedInterface, HostEndpoint, HostTicket}
 use Rattle.usb_device_host.specs.HostState.{HostState, host_of}
-use Rattle.usb_device_host.specs.HostBus.{key_at}
+use Rattle.usb_device_host.specs.HostBus.{key_at, owner_at}
+use Rattle.usb_device.specs.OwnerLaws.{ClaimsAreOwned}
+use Rattle.usb_device.proofs.OwnerLaw.{claims_stay_owned}
+use Rattle.usb_session_streams.specs.Accounts.{TicketsAreCounted}
 use Rattle.usb_device.specs.HandleStates.{InterfaceState}
 use Rattle.usb_device.specs.Futures.{FutureState}
 use Rattle.usb_script_lines.specs.declared.item.Item.{Item}
@@ -66,8 +69,8 @@ empty_session t p host = session_made t p host (replicate 64 None) (replicate 64
 none-under : (t : Tree) (p : List UdevPacket) (host : HostState) (e : EndpointName) (h : EndpointState) → open_under (empty_session t p host) e ≡ Some h → ⊥
 none-under t p host e h is = none-some h (sym (none-held (λ (x : ReaderState). x.endpoint) (λ (x : WriterState). x.endpoint) 64 e) ∙ is)
 
-empty-sound : (t : Tree) (p : List UdevPacket) (host : HostState) → host.steps ≡ [] → host.interfaces ≡ [] → host.devices ≡ [] → host.endpoints ≡ [] → IsSound (empty_session t p host)
-empty-sound t p host idle none nothing closed =
+empty-sound : (t : Tree) (p : List UdevPacket) (host : HostState) → host.steps ≡ [] → host.interfaces ≡ [] → host.devices ≡ [] → host.endpoints ≡ [] → host.tickets ≡ [] → TicketsAreCounted host → ClaimsAreOwned host → IsSound (empty_session t p host)
+empty-sound t p host idle none nothing closed unheld counted owned =
     record {
       idle = idle;
       device_names = length-replicate {A = Option ℕ} 64 None;
@@ -93,6 +96,9 @@ empty-sound t p host idle none nothing closed =
       futures_stand = λ n f is. absurd (nobody 64 n f is);
       futures_differ = λ m n f g isf isg apart. absurd (nobody 64 m f isf);
       futures_apart = λ e n h f ish isf. absurd (nobody 64 n f isf);
+      tickets_named = λ k key own. absurd (none-some key (sym (ap (λ (l : List HostTicket). owner_at l k) unheld) ∙ own));
+      tickets_counted = counted;
+      claims_owned = owned;
     }
 
 made-empty : (t : Tree) (p : List UdevPacket) (host : HostState) (ds : List (Option ℕ)) (is : List (Option InterfaceState)) (es : List (Option EndpointState)) (rs : List (Option ReaderState)) (ws : List (Option WriterState)) (fs : List (Option FutureState)) → ds ≡ replicate 64 None → is ≡ replicate 64 None → es ≡ replicate 64 None → rs ≡ replicate 64 None → ws ≡ replicate 64 None → fs ≡ replicate 64 None → session_made t p host ds is es rs ws fs ≡ empty_session t p host
@@ -114,9 +120,21 @@ start-endpoints : (items : List Item) → (start items).host.endpoints ≡ []
 unfolding start
 start-endpoints items = refl
 
+start-tickets : (items : List Item) → (start items).host.tickets ≡ []
+unfolding start
+start-tickets items = refl
+
+start-counted : (items : List Item) → TicketsAreCounted (start items).host
+unfolding start
+start-counted items = refl
+
+start-owned : (items : List Item) → ClaimsAreOwned (start items).host
+unfolding start
+start-owned items = claims_stay_owned.start (start items).host.kernel (claims_stay_owned.fresh (devices_of items))
+
 pub sound-start : (items : List Item) (t : Tree) (p : List UdevPacket) (host : HostState) (ds : List (Option ℕ)) (is : List (Option InterfaceState)) (es : List (Option EndpointState)) (rs : List (Option ReaderState)) (ws : List (Option WriterState)) (fs : List (Option FutureState)) → host ≡ (start items).host → ds ≡ replicate 64 None → is ≡ replicate 64 None → es ≡ replicate 64 None → rs ≡ replicate 64 None → ws ≡ replicate 64 None → fs ≡ replicate 64 None → IsSound (session_made t p host ds is es rs ws fs)
 sound-start items t p host ds is es rs ws fs start_ d i e q w f =
-    subst IsSound (sym (made-empty t p host ds is es rs ws fs d i e q w f)) (empty-sound t p host (ap (λ (h : HostState). h.steps) start_ ∙ start-steps items) (ap (λ (h : HostState). h.interfaces) start_ ∙ start-interfaces items) (ap (λ (h : HostState). h.devices) start_ ∙ start-devices items) (ap (λ (h : HostState). h.endpoints) start_ ∙ start-endpoints items))
+    subst IsSound (sym (made-empty t p host ds is es rs ws fs d i e q w f)) (empty-sound t p host (ap (λ (h : HostState). h.steps) start_ ∙ start-steps items) (ap (λ (h : HostState). h.interfaces) start_ ∙ start-interfaces items) (ap (λ (h : HostState). h.devices) start_ ∙ start-devices items) (ap (λ (h : HostState). h.endpoints) start_ ∙ start-endpoints items) (ap (λ (h : HostState). h.tickets) start_ ∙ start-tickets items) (subst TicketsAreCounted (sym start_) (start-counted items)) (subst ClaimsAreOwned (sym start_) (start-owned items)))
 
 empty-start : (items : List Item) → empty_session (tree_of items) (packets_of items) (start items).host ≡ session_of (start items)
 unfolding start

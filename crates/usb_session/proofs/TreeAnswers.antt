@@ -96,6 +96,9 @@ sound-packets s after sound =
       futures_stand = sound.futures_stand;
       futures_differ = sound.futures_differ;
       futures_apart = sound.futures_apart;
+      tickets_named = sound.tickets_named;
+      tickets_counted = sound.tickets_counted;
+      claims_owned = sound.claims_owned;
     }
 
 -- the device of a folder is opened as one is at its bus and its address

@@ -1,7 +1,8 @@
 //! The end of a session.
 
-ghost use Rattle.std.specs.Prelude.{◌≡◌, ◌<◌, ◌≤◌, ℕ, Some, None};
+ghost use Rattle.std.specs.Prelude.{◌≡◌, ◌<◌, ◌≤◌, ℕ, Some, None, false};
 ghost use Rattle.usb_kernel.specs.Extends.{Extends};
+ghost use Rattle.usb_kernel.specs.ClaimLaws.{is_claimed};
 ghost use Rattle.usb_kernel.specs.Legal.{IsLawful};
 ghost use Rattle.usb_device_host.specs.Finishes.{HasEnds, HasCompletions, KeepsNothing};
 ghost use Rattle.usb_device_tables.specs.History.{value_at};
@@ -111,6 +112,7 @@ impl Session {
         ensures none_open { (d : ℕ) → value_at result.devices d ≡ None }
         ensures keeps_nothing { (state : State) → Represents self state → Accounted state →
             KeepsNothing result }
+        ensures unclaimed { (d n : ℕ) → is_claimed result.kernel.devices d n ≡ false }
         ensures goes_on { Extends self.host.kernel.past result.kernel.past }
     {
         let mut session = self;

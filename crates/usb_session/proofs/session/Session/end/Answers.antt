@@ -12,7 +12,7 @@ use Rattle.usb_session_calls.specs.SessionState.{SessionState, open_under}
 use Rattle.usb_session.specs.SessionFacts.{made_of}
 use Rattle.usb_session.proofs.KeptNames.{unmapped}
 use Rattle.usb_session.proofs.Replaced.{reader_endpoint, writer_endpoint}
-use Rattle.usb_session.proofs.EndLemmas.{none-all, none-open, end-host, end-none, end-empty}
+use Rattle.usb_session.proofs.EndLemmas.{none-all, none-open, none-holds, none-claimed, end-host, end-none, end-empty}
 use Rattle.usb_session.proofs.AccountLemmas.{accounted-all_closed, accounted-none}
 use Rattle.usb_session_calls.proofs.Answering.{under_kept, host_is}
 use Rattle.usb_session.proofs.Later.{later-ended}
@@ -105,6 +105,8 @@ returns c =
     (stands state r) a c.finish.ensures.ended in
     let nothing : (state : State) → Represents c.args.self state → Accounted state → KeepsNothing now =
     λ state r a. end-empty s before now refl c.finish.ensures.finished c.session.invariant no_devices no_interfaces no_endpoints no_futures c.nothing_is_kept_that_has_gone.ensures.owned c.nothing_is_kept_that_has_gone.ensures.alive (ends state r a) in
+    let all_end : HasEnds now.tickets = c.finish.ensures.ended (none-holds s c.session.invariant no_endpoints no_futures) in
+    let empty : KeepsNothing now = end-empty s before now refl c.finish.ensures.finished c.session.invariant no_devices no_interfaces no_endpoints no_futures c.nothing_is_kept_that_has_gone.ensures.owned c.nothing_is_kept_that_has_gone.ensures.alive all_end in
     record {
       host = λ state r. end-host c.close_devices.new.self before now state (sym (ap (λ (v : SessionState). v.host) c.session.view_is)) c.finish.ensures.finished (stands state r);
       ended = ends;
@@ -112,5 +114,6 @@ returns c =
       lawful = rw (← c.kernel.ensures.kernel) c.journal.ensures.lawful;
       none_open = end-none s before now refl c.finish.ensures.finished c.session.invariant no_devices no_interfaces;
       keeps_nothing = nothing;
+      unclaimed = none-claimed before now c.finish.ensures.finished c.session.invariant.claims_owned empty.interfaces;
       goes_on = later-ended c.args.self now (λ state r. end-host c.close_devices.new.self before now state (sym (ap (λ (v : SessionState). v.host) c.session.view_is)) c.finish.ensures.finished (stands state r));
     }

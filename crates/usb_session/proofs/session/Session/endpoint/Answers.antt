@@ -8,7 +8,7 @@ use Rattle.usb_device_host.specs.EndpointOpens.{host_asked}
 use Rattle.usb_session.specs.SessionFacts.{made_of}
 use Rattle.usb_session_calls.proofs.NameLemmas.{found_at, free_at}
 use Rattle.usb_session_calls.proofs.Answering.{answers, answers-same}
-use Rattle.usb_session_calls.proofs.EndpointOpened.{endpoint-sound, maximum-small, endpoint-gives, endpoint-refused, endpoint-none, endpoint-used, asked-sound, asked-spare, opened-spare}
+use Rattle.usb_session_calls.proofs.EndpointOpened.{stands-owned, endpoint-sound, maximum-small, endpoint-gives, endpoint-refused, endpoint-none, endpoint-used, asked-sound, asked-spare, opened-spare}
 use Rattle.usb_kernel.proofs.Extends.{extends-same}
 use Rattle.usb_session.proofs.Later.{later-past, asked-past, opened-past}
 use Rattle.usb_session.proofs.session.Session.endpoint.Goals as goal
@@ -34,6 +34,7 @@ invariant_of-self c =
     c.in-Ok.ensures.stands c.in-Ok.ensures.others
     (free_at _ _ _ _ _ _ c.deref-2.ensures.value c.number-2.ensures.value c.is_free.ensures.free c.if-not-is_free.false)
     after
+    (stands-owned c.self.inside.host c.in-Some.interface.now (c.self.invariant.interfaces_stand c.args.interface c.in-Some.interface.now (found_at _ _ _ _ _ _ c.deref.ensures.value c.number.ensures.value c.open_at.ensures.value (ap option_copied c.in-Some.is))))
 
 pub returns-in-Ok-clause-answered : goal.returns-in-Ok-clause-answered
 returns-in-Ok-clause-answered c =
