@@ -5,3 +5,4 @@ pub mod MemoryLemmas
 pub mod OutsideLemmas
 pub mod RunLemmas
 pub mod SessionLemmas
+pub mod StopLemmas

@@ -5,11 +5,11 @@ use Rattle.std.specs.Io.KnownBytes.{Appends, Keeps, Consumes}
 use Rattle.std.proofs.lemmas.List.{append-nil}
 use Rattle.usb_session_run.specs.Causes.{Wrote, WrotePrefix, ReadWhole, TookAtMost}
 
-Appends_none : (o : Option (List ℕ)) → Appends o o []
+pub Appends_none : (o : Option (List ℕ)) → Appends o o []
 Appends_none None = tt
 Appends_none (Some xs) = sym (append-nil xs)
 
-Appends_more : (a b c : Option (List ℕ)) (xs ys : List ℕ) → Appends a b xs → Appends b c ys → Appends a c (xs ++ ys)
+pub Appends_more : (a b c : Option (List ℕ)) (xs ys : List ℕ) → Appends a b xs → Appends b c ys → Appends a c (xs ++ ys)
 Appends_more None b c xs ys p q = tt
 Appends_more (Some xs1) None c xs ys p q = absurd p
 Appends_more (Some xs1) (Some xs2) None xs ys p q = absurd q

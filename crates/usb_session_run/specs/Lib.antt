@@ -6,4 +6,5 @@ pub mod Memory
 pub mod Program
 pub mod Exchanges
 pub mod Session
+pub mod Stops
 pub mod Running

@@ -1,8 +1,9 @@
 //! A whole session.
 
-ghost use Rattle.std.specs.Prelude.{◌≡◌, ◌⊎◌, ◌≤◌, ◌<◌, ◌+◌, ℕ, List, length, IfOk, IfErr, OnOk, OnErr, IsErrOf};
+ghost use Rattle.std.specs.Prelude.{◌≡◌, ◌⊎◌, ◌≤◌, ◌<◌, ◌+◌, ℕ, List, length, IfOk, IfErr, OnOk, OnErr, IsErrOf, Some, None};
 ghost use Rattle.std.specs.List.{All, count_by};
-ghost use Rattle.std.specs.Io.KnownBytes.{Appends};
+ghost use Rattle.std.specs.Option.{ForSome};
+ghost use Rattle.std.specs.Io.KnownBytes.{Appends, Keeps};
 ghost use Rattle.usb_script_lines.specs.declared.item.Item.{Item};
 ghost use Rattle.usb_script_lines.specs.ItemKinds.{is_call, place_count};
 ghost use Rattle.usb_script.specs.ScriptFacts.{IsBounded};
@@ -23,15 +24,27 @@ ghost use Rattle.usb_session_calls.specs.Relation.{Represents};
 ghost use Rattle.usb_session_run.specs.Exchanges.{MessagesAlwaysArrive, MessagesKeepArriving};
 ghost use Rattle.usb_session_run.specs.Running.{AllAnswered};
 ghost use Rattle.usb_session_run.specs.Causes.{Rose, RoseByOne, Wrote, WrotePrefix, FailedLast, TookAtMost, EndsReading, IsWritingError};
+ghost use Rattle.usb_session_run.specs.Stops.{StoppedBehind, KeepsAnswered};
 ghost use Rattle.usb_session_run.specs.Session.{streams, IsAnswered, HasReason, FaultsNeverFall, IsSmooth, IsQuiet, IsExact, GaveTooMany, AnswersBytes};
 
 use crate::outside::{Failed, Sink, Source};
 use crate::reading::read_script;
 use crate::writing::offer;
 use std::alloc::Global;
-use usb_script::{SessionError, parse_script};
+use usb_kernel::Kernel;
+use usb_script::{Script, SessionError, parse_script};
 use usb_script_lines::Item;
 use usb_session::{Host, Session, Summary, tickets, write_fate};
+
+/// What a run of a script leaves behind.
+#[derive(Drop)]
+pub struct Ran {
+    /// The summary of the whole run, or why it was stopped.
+    pub result: Result<Summary, SessionError>,
+    /// The kernel at the end of the run, with the journal of what was answered. There is none where
+    /// memory was lacking before the first answer.
+    pub kernel: Option<Kernel>,
+}
 
 /// Writes these bytes to the sink, in as many writes as it takes.
 fn write_piece<K: Sink>(sink: &mut K, bytes: &[u8]) -> Result<(), SessionError>
@@ -91,6 +104,8 @@ fn answer_each<K: Sink>(
     ensures calls { IfOk result (λ n. n ≡ count_by is_call items.items) }
     ensures err { OnErr result
         (WrotePrefix (K.written sink.old) (K.written sink.new) (output items.items)) }
+    ensures stopped { OnErr result (StoppedBehind (K.written sink.old) (K.written sink.new)
+        items.items session.new.host.kernel.past) }
     ensures cause { IsErrOf result SessionError.WriteFault →
         Rose (K.faults sink.old) (K.faults sink.new) }
     ensures stops { IsErrOf result SessionError.WriteFault →
@@ -109,47 +124,6 @@ fn answer_each<K: Sink>(
         write_piece(sink, line.as_bytes())?;
     }
     Ok(calls)
-}
-
-/// Answers each item in order, and ends the session. It can't be dropped, so it is ended also where
-/// an answer could not be written. Gives the host at its end, and how many calls there were.
-fn run_items<K: Sink>(
-    alloc: Global,
-    line: &mut String,
-    items: Vec<Item>,
-    places: usize,
-    sink: &mut K,
-) -> Result<(Host, u32), SessionError>
-    requires bounded { IsBounded items.items }
-    requires places { places ≡ place_count items.items }
-    ensures host { IfOk result (λ h. h.0 ≡ final_host items.items) }
-    ensures ended { IfOk result (λ h. HasEnds h.0.tickets) }
-    ensures reaped { IfOk result (λ h. HasCompletions h.0.kernel.past) }
-    ensures lawful { IfOk result (λ h. IsLawful h.0.kernel.past) }
-    ensures keeps_nothing { IfOk result (λ h. KeepsNothing h.0) }
-    ensures calls { IfOk result (λ h. h.1 ≡ count_by is_call items.items) }
-    ensures ok { IfOk result (λ h. Wrote (K.written sink.old) (K.written sink.new)
-        (output items.items) (fate_lines h.0)) }
-    ensures err { OnErr result
-        (WrotePrefix (K.written sink.old) (K.written sink.new) (output items.items)) }
-    ensures cause { IsErrOf result SessionError.WriteFault →
-        Rose (K.faults sink.old) (K.faults sink.new) }
-    ensures stops { IsErrOf result SessionError.WriteFault →
-        FailedLast (K.faults sink.old) (K.faults sink.new) (K.has_failed sink.new) }
-    ensures quiet { OnOk result (K.faults sink.new ≡ K.faults sink.old) }
-    ensures only { IfErr result IsWritingError }
-    ensures later { K.faults sink.old ≤ K.faults sink.new }
-{
-    let mut session = Session::new(alloc, items.as_slice(), places)?;
-    let answered = answer_each(line, items, &mut session, sink);
-    let host = session.end();
-    match answered {
-        Ok(calls) => Ok((host, calls)),
-        Err(error) => {
-            drop(host);
-            Err(error)
-        }
-    }
 }
 
 /// Writes the fate lines of a host, each of whose tickets has its end, and sums it up.
@@ -177,47 +151,121 @@ fn write_summary<K: Sink>(
     Ok(Summary::of(host, calls))
 }
 
-/// Answers each item in order, ends the session, and then writes the fate lines.
-fn answer_items<K: Sink>(
-    alloc: Global,
-    items: Vec<Item>,
-    places: usize,
-    sink: &mut K,
-) -> Result<Summary, SessionError>
+/// Answers each item in order, ends the session, and then writes the fate lines. The session can't be dropped, so it is ended also
+/// where an answer could not be written.
+fn answer_items<K: Sink>(alloc: Global, items: Vec<Item>, places: usize, sink: &mut K) -> Ran
     requires bounded { IsBounded items.items }
     requires places { places ≡ place_count items.items }
-    ensures ok { OnOk result
+    ensures ok { OnOk result.result
         (Appends (K.written sink.old) (K.written sink.new) (output items.items)) }
-    ensures summary { IfOk result (λ s. s ≡ sum_of items.items) }
-    ensures ended { IfOk result (λ _. HasEnds (final_host items.items).tickets) }
-    ensures reaped { IfOk result (λ _. HasCompletions (final_host items.items).kernel.past) }
-    ensures keeps_nothing { IfOk result (λ _. KeepsNothing (final_host items.items)) }
-    ensures counted { IfOk result (λ _. IsCounted items.items) }
-    ensures served { IfOk result (λ _. EndpointsAreServed items.items) }
-    ensures printed { IfOk result (λ _. CompletionsArePrinted items.items) }
-    ensures controls { IfOk result (λ _. ControlsAreServed items.items) }
-    ensures fates { IfOk result (λ _. HasFinalFates items.items) }
-    ensures polled { IfOk result (λ _. PollsAnswer items.items) }
-    ensures framed { IfOk result (λ _. FramedReadersFollow items.items) }
-    ensures handed { IfOk result (λ _. BytesAreHandedOver items.items) }
-    ensures told { IfOk result (λ _. WritersAreTold items.items) }
-    ensures exchanged { IfOk result (λ _. MessagesAlwaysArrive items.items) }
-    ensures keeps_arriving { IfOk result (λ _. MessagesKeepArriving items.items) }
-    ensures err { OnErr result
+    ensures summary { IfOk result.result (λ s. s ≡ sum_of items.items) }
+    ensures ended { IfOk result.result (λ _. HasEnds (final_host items.items).tickets) }
+    ensures last_reaped { IfOk result.result (λ _.
+        HasCompletions (final_host items.items).kernel.past) }
+    ensures keeps_nothing { IfOk result.result (λ _. KeepsNothing (final_host items.items)) }
+    ensures counted { IfOk result.result (λ _. IsCounted items.items) }
+    ensures served { IfOk result.result (λ _. EndpointsAreServed items.items) }
+    ensures printed { IfOk result.result (λ _. CompletionsArePrinted items.items) }
+    ensures controls { IfOk result.result (λ _. ControlsAreServed items.items) }
+    ensures fates { IfOk result.result (λ _. HasFinalFates items.items) }
+    ensures polled { IfOk result.result (λ _. PollsAnswer items.items) }
+    ensures framed { IfOk result.result (λ _. FramedReadersFollow items.items) }
+    ensures handed { IfOk result.result (λ _. BytesAreHandedOver items.items) }
+    ensures told { IfOk result.result (λ _. WritersAreTold items.items) }
+    ensures exchanged { IfOk result.result (λ _. MessagesAlwaysArrive items.items) }
+    ensures keeps_arriving { IfOk result.result (λ _. MessagesKeepArriving items.items) }
+    ensures err { OnErr result.result
         (WrotePrefix (K.written sink.old) (K.written sink.new) (output items.items)) }
-    ensures cause { IsErrOf result SessionError.WriteFault →
+    ensures cause { IsErrOf result.result SessionError.WriteFault →
         Rose (K.faults sink.old) (K.faults sink.new) }
-    ensures stops { IsErrOf result SessionError.WriteFault →
+    ensures stops { IsErrOf result.result SessionError.WriteFault →
         FailedLast (K.faults sink.old) (K.faults sink.new) (K.has_failed sink.new) }
-    ensures quiet { OnOk result (K.faults sink.new ≡ K.faults sink.old) }
-    ensures only { IfErr result IsWritingError }
+    ensures quiet { OnOk result.result (K.faults sink.new ≡ K.faults sink.old) }
+    ensures only { IfErr result.result IsWritingError }
     ensures later { K.faults sink.old ≤ K.faults sink.new }
+    ensures kernel { OnOk result.result
+        (result.kernel ≡ Some (final_host items.items).kernel) }
+    ensures none { result.kernel ≡ None → (result.result ≡ Err SessionError.Memory)
+        × Keeps (K.written sink.old) (K.written sink.new) }
+    ensures reaped { ForSome result.kernel (λ k. HasCompletions k.past) }
+    ensures lawful { ForSome result.kernel (λ k. IsLawful k.past) }
+    ensures goes_on { ForSome result.kernel (λ k.
+        KeepsAnswered (K.written sink.old) (K.written sink.new) items.items k.past) }
 {
     let mut line = String::new(alloc);
-    let (host, calls) = run_items(alloc, &mut line, items, places, sink)?;
-    let answer = write_summary(&mut line, &host, calls, sink);
-    drop(host);
-    answer
+    let Ok(mut session) = Session::new(alloc, items.as_slice(), places) else {
+        return Ran {
+            result: Err(SessionError::Memory),
+            kernel: None,
+        };
+    };
+    match answer_each(&mut line, items, &mut session, sink) {
+        Ok(calls) => {
+            let host = session.end();
+            let result = write_summary(&mut line, &host, calls, sink);
+            Ran {
+                result,
+                kernel: Some(host.into_kernel()),
+            }
+        }
+        Err(error) => {
+            let host = session.end();
+            Ran {
+                result: Err(error),
+                kernel: Some(host.into_kernel()),
+            }
+        }
+    }
+}
+
+/// Answers a script, writes the answers, and hands back the kernel it ran on. Each line is offered to the sink in one piece, and
+/// again what the sink didn't take.
+///
+/// On `Ok` the sink got the whole output of the script. An `Err` says why the run was stopped: writing failed, or memory was
+/// lacking; then a prefix of the output was written. What is open is closed and each transfer is reaped all the same.
+pub fn run_script<K: Sink>(alloc: Global, script: Script, sink: &mut K) -> Ran
+    ensures ok { OnOk result.result
+        (Appends (K.written sink.old) (K.written sink.new) (output script)) }
+    ensures summary { IfOk result.result (λ s. s ≡ sum_of script) }
+    ensures ended { IfOk result.result (λ _. HasEnds (final_host script).tickets) }
+    ensures last_reaped { IfOk result.result (λ _.
+        HasCompletions (final_host script).kernel.past) }
+    ensures keeps_nothing { IfOk result.result (λ _. KeepsNothing (final_host script)) }
+    ensures counted { IfOk result.result (λ _. IsCounted script) }
+    ensures served { IfOk result.result (λ _. EndpointsAreServed script) }
+    ensures printed { IfOk result.result (λ _. CompletionsArePrinted script) }
+    ensures controls { IfOk result.result (λ _. ControlsAreServed script) }
+    ensures fates { IfOk result.result (λ _. HasFinalFates script) }
+    ensures polled { IfOk result.result (λ _. PollsAnswer script) }
+    ensures framed { IfOk result.result (λ _. FramedReadersFollow script) }
+    ensures handed { IfOk result.result (λ _. BytesAreHandedOver script) }
+    ensures told { IfOk result.result (λ _. WritersAreTold script) }
+    ensures exchanged { IfOk result.result (λ _. MessagesAlwaysArrive script) }
+    ensures keeps_arriving { IfOk result.result (λ _. MessagesKeepArriving script) }
+    ensures err { OnErr result.result
+        (WrotePrefix (K.written sink.old) (K.written sink.new) (output script)) }
+    ensures cause { IsErrOf result.result SessionError.WriteFault →
+        Rose (K.faults sink.old) (K.faults sink.new) }
+    ensures stops { IsErrOf result.result SessionError.WriteFault →
+        FailedLast (K.faults sink.old) (K.faults sink.new) (K.has_failed sink.new) }
+    ensures quiet { OnOk result.result (K.faults sink.new ≡ K.faults sink.old) }
+    ensures only { IfErr result.result IsWritingError }
+    ensures later { K.faults sink.old ≤ K.faults sink.new }
+    // The kernel of a whole run is that of the script's last host.
+    ensures kernel { OnOk result.result
+        (result.kernel ≡ Some (final_host script).kernel) }
+    // There is none only where memory was lacking before anything was written.
+    ensures none { result.kernel ≡ None → (result.result ≡ Err SessionError.Memory)
+        × Keeps (K.written sink.old) (K.written sink.new) }
+    // Whatever stopped the run: each ticket has its completion, the journal is lawful, and it begins as that behind each call
+    // whose answer the sink got.
+    ensures reaped { ForSome result.kernel (λ k. HasCompletions k.past) }
+    ensures lawful { ForSome result.kernel (λ k. IsLawful k.past) }
+    ensures goes_on { ForSome result.kernel (λ k.
+        KeepsAnswered (K.written sink.old) (K.written sink.new) script k.past) }
+{
+    let places = script.place_count();
+    answer_items(alloc, script.into_items(), places, sink)
 }
 
 /// Reads a script to its end, answers it, and writes the answers.
@@ -248,8 +296,11 @@ fn answer_source<S: Source, K: Sink>(
 {
     let bytes = read_script(alloc, source)?;
     let script = parse_script(alloc, bytes.as_slice())?;
-    let places = script.place_count();
-    answer_items(alloc, script.into_items(), places, sink)
+    let Ran {
+        result,
+        kernel: _kernel,
+    } = run_script(alloc, script, sink);
+    result
 }
 
 /// Reads a script to its end, at most 2^20 + 1 bytes, answers it, and writes the answers. Each line is offered to the

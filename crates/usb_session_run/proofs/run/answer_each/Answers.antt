@@ -4,6 +4,7 @@ use Rattle.std.proofs.lemmas.List.Sums.{sum_by-cons}
 use Rattle.std.proofs.lemmas.Result.{err_from_is_err_and}
 use Rattle.usb_script_lines.specs.ItemKinds.{places_in}
 use Rattle.usb_session_run.proofs.RunLemmas.{running-start, running-on, running-cut, calls-yes, calls-no}
+use Rattle.usb_session_run.proofs.StopLemmas.{going-start, going-on, stopped-writing, stopped-memory}
 use Rattle.usb_session_run.proofs.run.answer_each.Goals as goal
 use Rattle.usb_session_run.proofs.run.answer_each.Goals.{then-is_call, else-is_call}
 
@@ -13,6 +14,7 @@ loop-item-init g c =
     let left : into_iter_len c.into_iter-item-iterator.result ≡ length (into_iter_items c.into_iter-item-iterator.result) = search rules in
     record {
       running = rw all.0 (running-start (g.K.Sink.written c.args.sink.now) c.args.session.now c.args.items.items c.requires.stands);
+      going = rw all.0 (going-start (g.K.Sink.written c.args.sink.now) c.args.session.now c.args.items.items c.requires.stands);
       later = omega arith;
       quiet = refl;
       room = rw all.0 c.requires.room;
@@ -28,6 +30,18 @@ returns-in_err-write_piece-clause-err g c =
     (running-cut (g.K.Sink.written c.write_piece.new.sink) c.loop-item.session c.answer.new.self c.in-Some.item (into_iter_items c.next.new.self) c.as_bytes.result.now
     (rw c.in-Some.ensures.steps.0 at c.loop-item.invariant.running) (rw c.as_bytes.ensures.value (rw c.clear.ensures.bytes at c.in_ok-answer.ensures.answered)) c.in_err-write_piece.ensures.err)
 
+pub returns-in_err-write_piece-clause-stopped : goal.returns-in_err-write_piece-clause-stopped
+returns-in_err-write_piece-clause-stopped g c =
+    let p = err_from_is_err_and c.from_residual-in_err-write_piece.result c.from_residual-in_err-write_piece.ensures.1 in
+    rw p.1
+    (stopped-writing c.loop-item.session c.answer.new.self c.in-Some.item (into_iter_items c.next.new.self) c.as_bytes.result.now
+    (rw c.in-Some.ensures.steps.0 at c.loop-item.invariant.going) (rw c.as_bytes.ensures.value (rw c.clear.ensures.bytes at c.in_ok-answer.ensures.answered)) (g.K.Sink.written c.write_piece.new.sink) c.in_err-write_piece.ensures.err)
+
+pub returns-in_err-answer-clause-stopped : goal.returns-in_err-answer-clause-stopped
+returns-in_err-answer-clause-stopped g c =
+    let p = err_from_is_err_and c.from_residual.result c.from_residual.ensures.1 in
+    rw p.1 (stopped-memory c.loop-item.session c.answer.new.self.host.kernel.past c.loop-item.invariant.going c.in_err-answer.ensures.later)
+
 pub loop-item-preserved : goal.loop-item-preserved
 loop-item-preserved g c =
     let item = c.in-Some.item in
@@ -41,6 +55,9 @@ loop-item-preserved g c =
       running =
           running-on (g.K.Sink.written c.write_piece.new.sink) c.loop-item.session c.answer.new.self item rest c.as_bytes.result.now
           (rw steps at c.loop-item.invariant.running) (rw c.as_bytes.ensures.value (rw c.clear.ensures.bytes at c.in_ok-answer.ensures.answered)) c.in_ok-write_piece.ensures.ok;
+      going =
+          going-on c.loop-item.session c.answer.new.self item rest c.as_bytes.result.now
+          (rw steps at c.loop-item.invariant.going) (rw c.as_bytes.ensures.value (rw c.clear.ensures.bytes at c.in_ok-answer.ensures.answered)) (g.K.Sink.written c.write_piece.new.sink) c.in_ok-write_piece.ensures.ok;
       later = omega (arith, c.in_ok-write_piece.ensures.later);
       quiet = c.in_ok-write_piece.ensures.quiet ∙ c.loop-item.invariant.quiet;
       room = omega (arith, c.in_ok-answer.ensures.spare, rw steps at c.loop-item.invariant.room, sum_by-cons places_in item rest);
