@@ -1,12 +1,13 @@
 //! A whole session.
 
-ghost use Rattle.std.specs.Prelude.{◌≡◌, ◌⊎◌, ◌≤◌, ◌<◌, ◌+◌, ℕ, List, length, IfOk, IfErr, OnOk, OnErr, IsErrOf, Some, None};
+ghost use Rattle.std.specs.Prelude.{◌≡◌, ◌⊎◌, ◌≤◌, ◌<◌, ◌+◌, ℕ, List, length, IfOk, IfErr, OnOk, OnErr, IsErrOf, Some, None, false};
 ghost use Rattle.std.specs.List.{All, count_by};
 ghost use Rattle.std.specs.Option.{ForSome};
 ghost use Rattle.std.specs.Io.KnownBytes.{Appends, Keeps};
 ghost use Rattle.usb_script_lines.specs.declared.item.Item.{Item};
 ghost use Rattle.usb_script_lines.specs.ItemKinds.{is_call, place_count};
 ghost use Rattle.usb_script.specs.ScriptFacts.{IsBounded};
+ghost use Rattle.usb_kernel.specs.ClaimLaws.{is_claimed};
 ghost use Rattle.usb_kernel.specs.Legal.{IsLawful};
 ghost use Rattle.usb_device_host.specs.Finishes.{HasEnds, HasCompletions, KeepsNothing};
 ghost use Rattle.usb_session.specs.Fates.{fate_lines};
@@ -189,6 +190,8 @@ fn answer_items<K: Sink>(alloc: Global, items: Vec<Item>, places: usize, sink: &
         × Keeps (K.written sink.old) (K.written sink.new) }
     ensures reaped { ForSome result.kernel (λ k. HasCompletions k.past) }
     ensures lawful { ForSome result.kernel (λ k. IsLawful k.past) }
+    ensures unclaimed { ForSome result.kernel (λ k.
+        (d n : ℕ) → is_claimed k.devices d n ≡ false) }
     ensures goes_on { ForSome result.kernel (λ k.
         KeepsAnswered (K.written sink.old) (K.written sink.new) items.items k.past) }
 {
@@ -257,10 +260,12 @@ pub fn run_script<K: Sink>(alloc: Global, script: Script, sink: &mut K) -> Ran
     // There is none only where memory was lacking before anything was written.
     ensures none { result.kernel ≡ None → (result.result ≡ Err SessionError.Memory)
         × Keeps (K.written sink.old) (K.written sink.new) }
-    // Whatever stopped the run: each ticket has its completion, the journal is lawful, and it begins as that behind each call
-    // whose answer the sink got.
+    // Whatever stopped the run: each ticket has its completion, no interface is claimed, the journal is lawful, and it begins as
+    // that behind each call whose answer the sink got.
     ensures reaped { ForSome result.kernel (λ k. HasCompletions k.past) }
     ensures lawful { ForSome result.kernel (λ k. IsLawful k.past) }
+    ensures unclaimed { ForSome result.kernel (λ k.
+        (d n : ℕ) → is_claimed k.devices d n ≡ false) }
     ensures goes_on { ForSome result.kernel (λ k.
         KeepsAnswered (K.written sink.old) (K.written sink.new) script k.past) }
 {

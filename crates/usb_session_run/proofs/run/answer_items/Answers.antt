@@ -1,10 +1,11 @@
-use Rattle.std.proofs.Common.{◌≡◌, ◌∙◌, arith, ap, refl, subst, sym, Some}
+use Rattle.std.proofs.Common.{◌≡◌, ◌∙◌, ℕ, arith, ap, false, subst, sym, Some}
 use Rattle.std.proofs.lemmas.Result.{IfOk-weaker, on_ok_weaker, on_err_weaker}
 use Rattle.usb_kernel.specs.Value.{KernelState}
+use Rattle.usb_kernel.specs.ClaimLaws.{is_claimed}
 use Rattle.usb_kernel.specs.Legal.{IsLawful}
 use Rattle.usb_device_host.specs.HostState.{HostState}
 use Rattle.usb_device_host.specs.Finishes.{HasEnds, HasCompletions, KeepsNothing}
-use Rattle.usb_session.specs.Output.{output, final_host}
+use Rattle.usb_session.specs.Output.{output}
 use Rattle.usb_session.specs.Sums.{counts_of, sum_of}
 use Rattle.usb_session.proofs.HandleLemmas.{served-handles, final-counted, fates-of_scripts}
 use Rattle.usb_session.proofs.PlaceLemmas.{polls-of_scripts}
@@ -16,7 +17,6 @@ use Rattle.usb_session.proofs.WrittenLaw.{written-scripts}
 use Rattle.usb_session_run.specs.Stops.{StoppedBehind, KeepsAnswered}
 use Rattle.usb_session_run.proofs.Exchanges.{messages-arrive, messages-keep-arriving}
 use Rattle.usb_session_run.proofs.RunLemmas.{running-none, answered-but_fates, host-final, host-ended, host-nothing, answered-end, answered-cut, answered-sum, always-ok}
-use Rattle.usb_session_run.proofs.SessionLemmas.{Keeps_self}
 use Rattle.usb_session_run.proofs.StopLemmas.{stopped-ended, stopped-keeps, final-keeps, some-has, always-on_ok}
 use Rattle.usb_session_run.proofs.run.answer_items.Goals as goal
 
@@ -158,3 +158,11 @@ returns-clause-goes_on g c =
 pub returns-in_default-clause-err : goal.returns-in_default-clause-err
 returns-in_default-clause-err g c =
     running-none (g.K.Sink.written c.args.sink.now) (output c.args.items.items)
+
+pub returns-in-Ok-answer_each-clause-unclaimed : goal.returns-in-Ok-answer_each-clause-unclaimed
+returns-in-Ok-answer_each-clause-unclaimed g c =
+    some-has (λ (k : KernelState). (d n : ℕ) → is_claimed k.devices d n ≡ false) c.into_kernel.result (subst (λ (k : KernelState). (d n : ℕ) → is_claimed k.devices d n ≡ false) (sym c.into_kernel.ensures.kernel) c.end-host.ensures.unclaimed)
+
+pub returns-clause-unclaimed : goal.returns-clause-unclaimed
+returns-clause-unclaimed g c =
+    some-has (λ (k : KernelState). (d n : ℕ) → is_claimed k.devices d n ≡ false) c.into_kernel-in-Err.result (subst (λ (k : KernelState). (d n : ℕ) → is_claimed k.devices d n ≡ false) (sym c.into_kernel-in-Err.ensures.kernel) c.end-host-in-Err.ensures.unclaimed)
