@@ -16,7 +16,10 @@ use usb_session_run::{
 };
 
 /// Lines that open a device, and rows of a name, the lines behind these, and what these are answered.
-type Rows = ((&'static str, &'static str), &'static [(&'static str, &'static str, &'static str)]);
+type Rows = (
+    (&'static str, &'static str),
+    &'static [(&'static str, &'static str, &'static str)],
+);
 
 /// Transfers, messages that are read and written, control transfers on their way, and blocking transfers.
 const SCRIPTS: [Rows; 5] = [
@@ -39,8 +42,16 @@ fn expect_ends(rt: &impl Abort, alloc: Global, name: &str, script: &str) -> Resu
     let summary = run_session(alloc, &mut source, &mut sink)?;
     let output = std::str::from_utf8(sink.bytes())?;
     assert_eq!(rt; summary.taken, count_ends(output, " taken"), "of {name}");
-    assert_eq!(rt; summary.dropped, count_ends(output, " dropped"), "of {name}");
-    assert_eq!(rt; summary.reclaimed, count_ends(output, " reclaimed"), "of {name}");
+    assert_eq!(rt;
+        summary.dropped,
+        count_ends(output, " dropped"),
+        "of {name}"
+    );
+    assert_eq!(rt;
+        summary.reclaimed,
+        count_ends(output, " reclaimed"),
+        "of {name}"
+    );
     let ends = summary.taken + summary.dropped + summary.reclaimed;
     assert_eq!(rt; summary.tickets, ends, "of {name}");
     Ok(())
@@ -150,7 +161,10 @@ fn expect_read_fault(
     let mut sink = MemSink::new(alloc, 65536, Vec::new(alloc))?;
     let answer = run_session(alloc, &mut source, &mut sink);
     let is_told = matches!(answer, Err(SessionError::ReadFault));
-    assert!(rt; is_told && sink.bytes().is_empty(), "of {name} at read {read}");
+    assert!(rt;
+        is_told && sink.bytes().is_empty(),
+        "of {name} at read {read}"
+    );
     Ok(())
 }
 
@@ -177,7 +191,15 @@ fn expect_beginnings<R: Abort + Threads + Wait + Sync>(
 ) -> Result<(), Fail> {
     for write in 1..256 {
         let failing: (&[u64], &[u64]) = (&[], &[write]);
-        let outcome = run_with(rt, alloc, &[], script.as_bytes(), failing, OpenGate, &Seen::new())?;
+        let outcome = run_with(
+            rt,
+            alloc,
+            &[],
+            script.as_bytes(),
+            failing,
+            OpenGate,
+            &Seen::new(),
+        )?;
         let written = outcome.sink.bytes();
         if outcome.status == 0 {
             assert_eq!(rt; written, output.as_bytes(), "of {name}");
