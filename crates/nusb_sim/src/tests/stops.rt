@@ -1,6 +1,8 @@
 //! Runs that are stopped in the middle: the device goes, a close comes early, the source or the sink fails. Each run ends, and each
 //! of its tickets has its end.
 
+ghost use Rattle.std.specs.Prelude.{Contains, IsTrue, Some};
+
 use super::controls::ON_THEIR_WAY;
 use super::endpoints::BLOCKING;
 use super::readers::FRAMED;
@@ -132,13 +134,13 @@ struct Slow {
 }
 
 impl Source for Slow {
-    ghost left = { λ s. MemSource.left s.source };
+    ghost left = { λ s. Some s.source.rest };
 
-    ghost faults = { λ s. MemSource.faults s.source };
+    ghost faults = { λ s. s.source.faults };
 
-    ghost has_failed = { λ s. MemSource.has_failed s.source };
+    ghost has_failed = { λ s. Contains s.source.fail_at s.source.calls };
 
-    ghost has_ended = { λ s. MemSource.has_ended s.source };
+    ghost has_ended = { λ s. IsTrue s.source.has_ended };
 
     fn read(&mut self, buf: &mut [u8]) -> Result<usize, Failed> {
         let most = buf.len().min(100);
