@@ -1,17 +1,22 @@
 #!/usr/bin/env python3
 """Stops runs of a built program in the middle, and prints how many runs there were.
 
-usage: bench/stops.py PROGRAM
+usage: bench/stops.py PROGRAM [--allocations]
 
 The device goes before each line; three tickets are reaped in each order; each close comes a line earlier; the first, the second or
 the third read fails, of at most 100 bytes each; and standard output takes only so many bytes, for each number of them. Each run has to
 end with the status that docs/SCRIPT.md says. With status 0 each ticket has its end, with 6 the beginning of the whole output was
 written, with 5 nothing. (The program writes what it gathered in one piece, so writes of single lines fail in its tests alone.)
+
+With --allocations one allocation fails after the other, each in a run of its own, on three of the scripts. The status is 7 then, or 0
+where the allocation was not needed, and what was written is the beginning of the whole output. This takes `cc`, and a program that
+takes its memory by the C library's malloc and realloc.
 """
 import array
 import collections
 import fcntl
 import itertools
+import os
 import re
 import resource
 import signal
@@ -146,6 +151,54 @@ def fails_at_byte(program, name, script, output, room):
     expect(written == output[:room], name, f"room {room}: other bytes")
 
 
+# Has the allocation fail whose number, from 1, is in FAIL_AT.
+FAILING = r"""
+#define _GNU_SOURCE
+#include <dlfcn.h>
+#include <stdlib.h>
+static long left;
+__attribute__((constructor)) static void begin(void) { const char *at = getenv("FAIL_AT"); left = at ? atol(at) : 0; }
+void *malloc(size_t n) {
+    static void *(*next)(size_t);
+    if (!next) next = dlsym(RTLD_NEXT, "malloc");
+    return left && !--left ? NULL : next(n);
+}
+void *realloc(void *p, size_t n) {
+    static void *(*next)(void *, size_t);
+    if (!next) next = dlsym(RTLD_NEXT, "realloc");
+    return left && !--left ? NULL : next(p, n);
+}
+"""
+LEAN = ["framed reads of 64 bytes", "messages that are written", "control transfers on their way"]
+
+
+def failed_allocations(program, shim, name, script, output):
+    """How many allocations were had to fail, until one run made fewer."""
+    whole, count = 0, 0
+    while whole < 8:
+        count += 1
+        ran = run(program, script, env={**os.environ, "LD_PRELOAD": shim, "FAIL_AT": str(count)})
+        if ran.returncode == 0:
+            expect(ran.stdout == output, name, f"allocation {count}: other bytes")
+            whole += 1
+            continue
+        whole = 0
+        expect(ran.returncode == 7 and ran.stderr == b"nusb_sim: out of memory\n", name, f"allocation {count}: status {ran.returncode}")
+        expect(output.startswith(ran.stdout), name, f"allocation {count}: other bytes")
+    return count - whole
+
+
+def allocations(program):
+    with tempfile.TemporaryDirectory() as room:
+        source, shim = f"{room}/failing.c", f"{room}/failing.so"
+        with open(source, "w", encoding="utf-8") as file:
+            file.write(FAILING)
+        subprocess.run(["cc", "-shared", "-fPIC", "-O1", "-o", shim, source, "-ldl"], check=True)
+        for name in LEAN:
+            output = ends(program, name, SCRIPTS[name])
+            print(f"{failed_allocations(program, shim, name, text_of(SCRIPTS[name]), output)} allocations of: {name}")
+
+
 def main(program):
     runs = collections.Counter()
     for name, lines in SCRIPTS.items():
@@ -168,6 +221,9 @@ def main(program):
     print(f"{sum(runs.values())} runs, each as it has to end")
 
 
-if len(sys.argv) != 2:
+if sys.argv[2:] not in ([], ["--allocations"]) or len(sys.argv) < 2:
     sys.exit(__doc__)
-main(sys.argv[1])
+if sys.argv[2:]:
+    allocations(sys.argv[1])
+else:
+    main(sys.argv[1])
