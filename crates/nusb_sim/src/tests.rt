@@ -10,6 +10,7 @@ mod lines;
 mod live;
 mod readers;
 mod steps;
+mod stops;
 mod writers;
 
 use std::alloc::{AllocError, Global};

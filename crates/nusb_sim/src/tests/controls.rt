@@ -126,7 +126,7 @@ fn answers_control_transfers_and_strings(rt: HostRuntime) -> Result<(), Fail> {
 }
 
 /// Transfers on their way.
-const ON_THEIR_WAY: [(&str, &str, &str); 9] = [
+pub const ON_THEIR_WAY: [(&str, &str, &str); 9] = [
     (
         "control deadlines",
         "fin f0 d0 vendor device 30 0000 0000 64 100\n\

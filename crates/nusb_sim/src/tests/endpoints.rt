@@ -13,7 +13,7 @@ const CLAIMED: (&str, &str) = (
 );
 
 /// Blocking transfers, closes and a device that goes away.
-const BLOCKING: [(&str, &str, &str); 4] = [
+pub const BLOCKING: [(&str, &str, &str); 4] = [
     (
         "blocking transfers",
         "xferin e0 128 0\n\

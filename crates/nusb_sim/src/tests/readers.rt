@@ -4,7 +4,7 @@ use super::{OPENED, expect_rows};
 use std::test::Fail;
 
 /// Messages and their ends, for transfers of one and of two packets, and reads of faults.
-const FRAMED: [(&str, &str, &str); 9] = [
+pub const FRAMED: [(&str, &str, &str); 9] = [
     (
         "framed reads size 64",
         "reader r0 e0 64\n\

@@ -5,7 +5,7 @@ use std::test::Fail;
 
 /// The lines that open a device with a bulk IN endpoint 81 and a bulk OUT endpoint 02, each of 64 bytes, and claim
 /// its interface; and their answers.
-const CLAIMED: (&str, &str) = (
+pub const CLAIMED: (&str, &str) = (
     "device k0 1 6 3 1 1201000200000040aaaabbbb0001000000010902200001010080320904000002ff0000000705810240000007050202400000\n\
      open d0 1 6\n\
      claim d0 0 i0\n",
@@ -14,7 +14,7 @@ const CLAIMED: (&str, &str) = (
 );
 
 /// Ends of messages, flushes that time out, failures, polls, and a control transfer before the streams.
-const WRITTEN: [(&str, &str, &str); 9] = [
+pub const WRITTEN: [(&str, &str, &str); 9] = [
     (
         "writer ends and flush timeout",
         "endpoint e0 i0 02 bulk-out\n\
