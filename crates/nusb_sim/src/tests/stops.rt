@@ -14,7 +14,8 @@ use std::sync::Wait;
 use std::test::Fail;
 use std::thread::Threads;
 use usb_session_run::{
-    Failed, MemSink, MemSource, OpenGate, Seen, SessionError, Source, SureSource, run_session,
+    Failed, MemSink, MemSource, OpenGate, Ran, Seen, SessionError, Source, SureSource,
+    parse_script, run_script, run_session,
 };
 
 /// Lines that open a device, and rows of a name, the lines behind these, and what these are answered.
@@ -221,6 +222,36 @@ fn a_sink_fails_at_each_of_its_writes(rt: HostRuntime) -> Result<(), Fail> {
             let script = joined(rt.alloc(), front.0, lines)?;
             let output = joined(rt.alloc(), front.1, output)?;
             expect_beginnings(&rt, rt.alloc(), name, script.as_str(), output.as_str())?;
+        }
+    }
+    Ok(())
+}
+
+/// Has one write of a run fail: the kernel that is handed back has no ticket that waits for its reap.
+fn expect_kernel(
+    rt: &impl Abort,
+    alloc: Global,
+    name: &str,
+    script: &str,
+    write: u64,
+) -> Result<(), Fail> {
+    let mut sink = MemSink::new(alloc, 65536, vec![in alloc; write]?)?;
+    let parsed = parse_script(alloc, script.as_bytes())?;
+    let Ran { result, kernel } = run_script(alloc, parsed, &mut sink);
+    let is_told = matches!(result, Err(SessionError::WriteFault));
+    let is_reaped = matches!(&kernel, Some(kernel) if kernel.unreaped() == 0);
+    assert!(rt; is_told && is_reaped, "of {name} at write {write}");
+    Ok(())
+}
+
+#[test]
+fn a_run_that_stops_hands_its_kernel_back(rt: HostRuntime) -> Result<(), Fail> {
+    for (front, rows) in &SCRIPTS {
+        for (name, lines, _) in *rows {
+            let script = joined(rt.alloc(), front.0, lines)?;
+            for write in 1..4 {
+                expect_kernel(&rt, rt.alloc(), name, script.as_str(), write)?;
+            }
         }
     }
     Ok(())
