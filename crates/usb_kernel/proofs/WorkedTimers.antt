@@ -1,8 +1,9 @@
 -- Turns of the timer, computed.
 use Rattle.std.proofs.Common.{◌≡◌, List, [], ◌∷◌, Some, None, refl}
+use Rattle.std.specs.Prelude.{replicate}
 use Rattle.usb_kernel.specs.declared.event.Event.{Event}
 use Rattle.usb_kernel.specs.declared.event.Event.TheVariants.{Submit, Refuse, Discard, Reap, Packet}
-use Rattle.usb_kernel.specs.declared.event.Body.TheVariants.{Wanted}
+use Rattle.usb_kernel.specs.declared.event.Body.TheVariants.{Wanted, Sent}
 use Rattle.usb_kernel.specs.Timers.{timer_turned}
 use Rattle.usb_kernel.specs.Overdue.{overdue_count}
 
@@ -22,6 +23,20 @@ first_is_due = refl
 pub other_is_due : timer_turned 200 (Reap 0 ∷ Discard 0 ∷ two) ≡ Discard 1 ∷ Reap 0 ∷ Discard 0 ∷ two
 unfolding timer_turned two
 other_is_due = refl
+
+-- a deadline serves a ticket of any endpoint: an IN ticket with 64 of 128 bytes, and an OUT ticket, of which no packet was acknowledged. What came
+-- stays with the ticket
+pub others : List Event
+others =
+    Packet 0 129 (replicate 64 7) ∷ Submit 1 0 2 64 (Sent (7 ∷ [])) 1 (Some 100) ∷ Submit 0 0 129 64 (Wanted 128) 128 (Some 100) ∷ []
+
+pub none_of_others_is_due : timer_turned 99 others ≡ others
+unfolding timer_turned others
+none_of_others_is_due = refl
+
+pub others_are_due : timer_turned 100 others ≡ Discard 1 ∷ Discard 0 ∷ others
+unfolding timer_turned others
+others_are_due = refl
 
 -- by deadline, and then by number; not those without a deadline, the refused and the finished ones
 pub many : List Event

@@ -1,5 +1,5 @@
 -- Deadlines, and the turn of the timer.
-use Rattle.std.specs.Prelude.{ℕ, Bool, List, [], ◌∷◌, length, map, filter, Option, Some, None, is_none, nat_le, slice_get, option_and_then}
+use Rattle.std.specs.Prelude.{ℕ, ◌+◌, ◌-◌, ◌^◌, min, Bool, List, [], ◌∷◌, length, map, filter, Option, Some, None, is_none, nat_le, slice_get, option_and_then}
 use Rattle.std.specs.declared.cmp.Ordering.{Ordering}
 use Rattle.std.specs.Ordering.{nat_cmp, ordering_then}
 use Rattle.std.specs.BTreeMap.{is_at}
@@ -10,6 +10,10 @@ use Rattle.usb_kernel.specs.declared.event.Event.TheVariants.{Submit}
 use Rattle.usb_kernel.specs.Tickets.{tickets}
 use Rattle.usb_kernel.specs.Journal.{fate}
 use Rattle.usb_kernel.specs.Discards.{after_discard}
+
+-- when a time in nanoseconds is up: it is cut to a day, and ends at the greatest 64-bit number
+abbrev pub deadline_after : ℕ → ℕ → ℕ
+deadline_after clock timeout = min (2 ^ 64 - 1) (clock + min timeout 86400000000000)
 
 -- the deadline of ticket t, if there is such a ticket and it has one
 abbrev pub deadline_of : List Event → ℕ → Option ℕ

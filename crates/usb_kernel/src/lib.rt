@@ -35,6 +35,7 @@ pub use laws::{
 };
 pub use looks::Steps;
 pub use submission::{Done, Submission, Submitted, TicketInfo};
+pub use timer::deadline_after;
 pub use usb_desc::errno;
 pub use usb_kernel_devices::{
     Armed, Bytes, Descriptors, DeviceState, InterfaceSet, KernelCall, KernelStep, SimDevice,

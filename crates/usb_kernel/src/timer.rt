@@ -8,7 +8,7 @@ ghost use Rattle.usb_kernel.specs.Submissions.{submit_event};
 ghost use Rattle.usb_kernel.specs.Legal.{IsLawful};
 ghost use Rattle.usb_kernel.specs.Steps.{is_unfinished, after_discard};
 ghost use Rattle.usb_kernel.specs.Rows.{Agrees, owed};
-ghost use Rattle.usb_kernel.specs.Timers.{deadline_of, without_deadline, is_up, timer_turned};
+ghost use Rattle.usb_kernel.specs.Timers.{deadline_after, deadline_of, without_deadline, is_up, timer_turned};
 ghost use Rattle.usb_kernel.specs.Overdue.{overdue_count};
 ghost use Rattle.usb_kernel.specs.Deadlines.{KeepsDeadlines};
 
@@ -19,6 +19,15 @@ use crate::table::TicketTable;
 use std::collections::BTreeSet;
 use std::sync::ledger::Ledger;
 use usb_desc::NoMemory;
+
+/// When a time of `timeout` nanoseconds is up that begins at `clock`. A day of it counts at most,
+/// and the deadline ends at the greatest number.
+pub fn deadline_after(clock: u64, timeout: u64) -> u64
+    ensures deadline { result ≡ deadline_after clock timeout }
+{
+    let day = 86_400_000_000_000;
+    clock.saturating_add(timeout.min(day))
+}
 
 /// Adds the deadline of a ticket that is submitted, if it has one.
 pub(crate) fn add_deadline(

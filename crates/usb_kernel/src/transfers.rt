@@ -1,7 +1,6 @@
 //! Transfers: tickets that are submitted, refused, discarded and reaped.
 
-ghost use Rattle.std.specs.Prelude.{◌≡◌, ◌+◌, ◌*◌, ◌^◌, ◌<◌, ◌≤◌, ◌∷◌, length, max, true, IsSome, vec_len, vec_capacity, Some, List, OnOk, OnErr, IfOk, IfErr, IfSome};
-ghost use Rattle.usb_desc.specs.declared.types.TransferType.{TransferType};
+ghost use Rattle.std.specs.Prelude.{◌≡◌, ◌+◌, ◌*◌, ◌^◌, ◌<◌, ◌≤◌, ◌∷◌, length, max, true, vec_len, vec_capacity, Some, List, OnOk, OnErr, IfOk, IfErr, IfSome};
 ghost use Rattle.usb_kernel.specs.Tickets.{tickets};
 ghost use Rattle.usb_kernel_devices.specs.Errnos.{IsErrno};
 ghost use Rattle.usb_kernel.specs.Submissions.{submit_event, IsWhole};
@@ -102,7 +101,6 @@ impl Kernel {
     /// one. An `Err` is want of memory, and then nothing has changed.
     pub fn submit(&mut self, s: Submission) -> Result<Submitted, Submission>
         requires whole { IsWhole s }
-        requires deadline { IsSome s.deadline → s.kind ≡ TransferType.Control }
         ensures submitted { IfOk result
             (λ r. r ≡ submit_result self.old.devices self.old.armed self.old.past s) }
         ensures number { IfOk result (λ r. 4 * number_of r + 3 < 2 ^ 64) }
