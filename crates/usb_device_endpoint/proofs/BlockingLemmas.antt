@@ -82,10 +82,10 @@ entered-ticket past s (Some errno) = (refused_of s, last-is (tickets past) (refu
 
 -- is finished once it was waited for in vain and cancelled
 pub IsFinished-cancelled : (first sent waited cancelled : BusState) (to : Route) (b : BufferState) (refusal : Option ℕ) (pending : List ℕ) → TicketStays → DiscardExtends → DiscardFinishes
-    → Entered first sent to b refusal → Extends sent.past waited.past → pending ≡ length (tickets first.past) ∷ [] → cancelled.past ≡ all_discarded after_discard waited.past pending
+    → Entered first sent to None b refusal → Extends sent.past waited.past → pending ≡ length (tickets first.past) ∷ [] → cancelled.past ≡ all_discarded after_discard waited.past pending
     → IsFinished cancelled.past (front_of pending)
 IsFinished-cancelled first sent waited cancelled to b refusal pending stays extends finishes enters more is after =
-    let new = entered-ticket first.past (submission_of to b) refusal in
+    let new = entered-ticket first.past (submission_of to None b) refusal in
     let here : slice_get (tickets sent.past) (length (tickets first.past)) ≡ Some new.0 = ap (λ (past : List Event). slice_get (tickets past) (length (tickets first.past))) enters.past ∙ new.1 in
     let there = stays sent.past waited.past (length (tickets first.past)) new.0 more here in
     let done = IsFinished-discarded waited.past (length (tickets first.past)) new.0 stays extends finishes there in

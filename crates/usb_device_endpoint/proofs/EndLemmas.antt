@@ -53,7 +53,7 @@ ended_stays old new t moved ended =
     }
 
 pub entered_moves : EnteredMoves
-entered_moves old new to b refusal entered =
+entered_moves old new to deadline b refusal entered =
     record { past = record { more = _ ∷ []; is = entered.past }; owner = inr (inr (length (tickets old.past), to.key, omega arith, entered.owner)) }
 
 pub later_moves : LaterMoves

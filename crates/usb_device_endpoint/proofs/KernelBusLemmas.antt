@@ -64,19 +64,19 @@ waiting-entered : (past : List Event) (sub : Submission) (refusal : Option ℕ) 
 waiting-entered past sub None n = waiting-submit past n sub.device sub.endpoint sub.maximum _ sub.buffer.room sub.deadline
 waiting-entered past sub (Some errno) n = waiting-refuse past n sub.device sub.endpoint sub.maximum _ sub.buffer.room errno
 
-submitted-some : (h : KernelBusState) (to : Route) (t : TransferData) (b : BufferState) → buffer_held t.held ≡ Some b → bus_submitted h to t ≡ bus_entered h (submission_of to b) (hold_for to t)
-submitted-some h to t b is = rw is refl
+submitted-some : (h : KernelBusState) (to : Route) (deadline : Option ℕ) (t : TransferData) (b : BufferState) → buffer_held t.held ≡ Some b → bus_submitted h to deadline t ≡ bus_entered h (submission_of to deadline b) (hold_for to t)
+submitted-some h to deadline t b is = rw is refl
 
-refused-some : (h : KernelBusState) (to : Route) (t : TransferData) (errno : ℕ) (b : BufferState) → buffer_held t.held ≡ Some b → bus_refused h to t errno ≡ record h { kernel = kernel_refused h.kernel (submission_of to b) errno; holds = h.holds ++ Some (hold_for to t) ∷ [] }
+refused-some : (h : KernelBusState) (to : Route) (t : TransferData) (errno : ℕ) (b : BufferState) → buffer_held t.held ≡ Some b → bus_refused h to t errno ≡ record h { kernel = kernel_refused h.kernel (submission_of to None b) errno; holds = h.holds ++ Some (hold_for to t) ∷ [] }
 refused-some h to t errno b is = rw is refl
 
 -- a submission, and a refusal
-pub submitted-state : (old new : KernelBusState) (to : Route) (t : TransferData) (b : BufferState) → length old.holds ≡ length (tickets old.kernel.past) → new ≡ bus_submitted old to t → buffer_held t.held ≡ Some b → IfSome (submit_refusal old.kernel.devices old.kernel.armed to.device) IsErrno → (refusal : Option ℕ) × Entered (bus_of old) (bus_of new) to b refusal
-submitted-state old new to t b count is some known =
-    let after = is ∙ submitted-some old to t b some in
+pub submitted-state : (old new : KernelBusState) (to : Route) (deadline : Option ℕ) (t : TransferData) (b : BufferState) → length old.holds ≡ length (tickets old.kernel.past) → new ≡ bus_submitted old to deadline t → buffer_held t.held ≡ Some b → IfSome (submit_refusal old.kernel.devices old.kernel.armed to.device) IsErrno → (refusal : Option ℕ) × Entered (bus_of old) (bus_of new) to deadline b refusal
+submitted-state old new to deadline t b count is some known =
+    let after = is ∙ submitted-some old to deadline t b some in
     (submit_refusal old.kernel.devices old.kernel.armed to.device, rw after (record { past = refl; clock = refl; owner = owner-after old.holds (hold_for to t) (length (tickets old.kernel.past)) count; keys = refl; errno = known }))
 
-pub refused-state : (old new : KernelBusState) (to : Route) (t : TransferData) (errno : ℕ) (b : BufferState) → length old.holds ≡ length (tickets old.kernel.past) → new ≡ bus_refused old to t errno → buffer_held t.held ≡ Some b → IsErrno errno → Entered (bus_of old) (bus_of new) to b (Some errno)
+pub refused-state : (old new : KernelBusState) (to : Route) (t : TransferData) (errno : ℕ) (b : BufferState) → length old.holds ≡ length (tickets old.kernel.past) → new ≡ bus_refused old to t errno → buffer_held t.held ≡ Some b → IsErrno errno → Entered (bus_of old) (bus_of new) to None b (Some errno)
 refused-state old new to t errno b count is some known =
     let after = is ∙ refused-some old to t errno b some in
     rw after (record { past = refl; clock = refl; owner = owner-after old.holds (hold_for to t) (length (tickets old.kernel.past)) count; keys = refl; errno = known })
@@ -84,18 +84,18 @@ refused-state old new to t errno b count is some known =
 entered-waiting : (old new : KernelBusState) (sub : Submission) (refusal : Option ℕ) (n : ℕ) → new.kernel.past ≡ submit_or_refuse n sub refusal ∷ old.kernel.past → length (waiting new.kernel.past) ≤ length (waiting old.kernel.past)
 entered-waiting old new sub refusal n is = rw (is, waiting-entered old.kernel.past sub refusal n) (omega arith)
 
-pub submitted-left : (old new : KernelBusState) (to : Route) (t : TransferData) (o : Option BufferState) → buffer_held t.held ≡ o → new ≡ bus_submitted old to t → length (waiting new.kernel.past) ≤ length (waiting old.kernel.past)
-submitted-left old new to t None some is =
-    let same : bus_submitted old to t ≡ old = rw some refl in
+pub submitted-left : (old new : KernelBusState) (to : Route) (deadline : Option ℕ) (t : TransferData) (o : Option BufferState) → buffer_held t.held ≡ o → new ≡ bus_submitted old to deadline t → length (waiting new.kernel.past) ≤ length (waiting old.kernel.past)
+submitted-left old new to deadline t None some is =
+    let same : bus_submitted old to deadline t ≡ old = rw some refl in
     rw (is ∙ same) (omega arith)
-submitted-left old new to t (Some b) some is =
-    let past : new.kernel.past ≡ after_submit old.kernel.devices old.kernel.armed old.kernel.past (submission_of to b) = ap (λ (h : KernelBusState). h.kernel.past) (is ∙ submitted-some old to t b some) in
-    entered-waiting old new (submission_of to b) (submit_refusal old.kernel.devices old.kernel.armed to.device) (length (tickets old.kernel.past)) past
+submitted-left old new to deadline t (Some b) some is =
+    let past : new.kernel.past ≡ after_submit old.kernel.devices old.kernel.armed old.kernel.past (submission_of to deadline b) = ap (λ (h : KernelBusState). h.kernel.past) (is ∙ submitted-some old to deadline t b some) in
+    entered-waiting old new (submission_of to deadline b) (submit_refusal old.kernel.devices old.kernel.armed to.device) (length (tickets old.kernel.past)) past
 
 pub refused-left : (old new : KernelBusState) (to : Route) (t : TransferData) (errno : ℕ) (o : Option BufferState) → buffer_held t.held ≡ o → new ≡ bus_refused old to t errno → length (waiting new.kernel.past) ≤ length (waiting old.kernel.past)
 refused-left old new to t errno None some is =
     let same : bus_refused old to t errno ≡ old = rw some refl in
     rw (is ∙ same) (omega arith)
 refused-left old new to t errno (Some b) some is =
-    let past : new.kernel.past ≡ after_refuse old.kernel.past (submission_of to b) errno = ap (λ (h : KernelBusState). h.kernel.past) (is ∙ refused-some old to t errno b some) in
-    entered-waiting old new (submission_of to b) (Some errno) (length (tickets old.kernel.past)) past
+    let past : new.kernel.past ≡ after_refuse old.kernel.past (submission_of to None b) errno = ap (λ (h : KernelBusState). h.kernel.past) (is ∙ refused-some old to t errno b some) in
+    entered-waiting old new (submission_of to None b) (Some errno) (length (tickets old.kernel.past)) past

@@ -62,23 +62,23 @@ submitted-some e old t is = rw is (omega arith)
 
 -- a transfer that its first wait found
 pub transferred-found : {S : Type 0} (k : BusCalls S) (timeout : ℕ) (s sent s' : S) (e one e' : EndpointState) (b : BufferState) (c : Completion)
-    → sent ≡ entered k s e b → one ≡ record e { pending = length (tickets (k.state s).past) ∷ [] } → wait_next k timeout sent one ≡ front_found (Some c) s' e'
+    → sent ≡ entered k s e None b → one ≡ record e { pending = length (tickets (k.state s).past) ∷ [] } → wait_next k timeout sent one ≡ front_found (Some c) s' e'
     → transferred k timeout s e b ≡ front_found (Some c) s' e'
 transferred-found k timeout s sent s' e one e' b c is same found =
     let next = length (tickets (k.state s).past) in
     let single = record e { pending = next ∷ [] } in
-    let wait : wait_next k timeout (entered k s e b) single ≡ front_found (Some c) s' e' = ap (λ x. wait_next k timeout x single) (sym is) ∙ ap (λ x. wait_next k timeout sent x) (sym same) ∙ found in
-    ap (λ x. polled k x single) (or_next-found k next (λ mid. waited_by_seconds k next (k.discarded mid next)) (waited k next timeout (entered k s e b)) (wait-found k timeout (entered k s e b) s' single e' c wait)) ∙ wait
+    let wait : wait_next k timeout (entered k s e None b) single ≡ front_found (Some c) s' e' = ap (λ x. wait_next k timeout x single) (sym is) ∙ ap (λ x. wait_next k timeout sent x) (sym same) ∙ found in
+    ap (λ x. polled k x single) (or_next-found k next (λ mid. waited_by_seconds k next (k.discarded mid next)) (waited k next timeout (entered k s e None b)) (wait-found k timeout (entered k s e None b) s' single e' c wait)) ∙ wait
 
 -- or one that was discarded then
 pub transferred-later : {S : Type 0} (k : BusCalls S) (timeout : ℕ) (s sent mid next s' : S) (e one left e' : EndpointState) (b : BufferState) (c : Completion)
-    → sent ≡ entered k s e b → one ≡ record e { pending = length (tickets (k.state s).past) ∷ [] } → wait_next k timeout sent one ≡ front_found None mid left
+    → sent ≡ entered k s e None b → one ≡ record e { pending = length (tickets (k.state s).past) ∷ [] } → wait_next k timeout sent one ≡ front_found None mid left
     → next ≡ k.discarded mid (length (tickets (k.state s).past)) → polled k (waited_by_seconds k (length (tickets (k.state s).past)) next) (record e { pending = length (tickets (k.state s).past) ∷ [] }) ≡ front_found (Some c) s' e'
     → transferred k timeout s e b ≡ front_found (Some c) s' e'
 transferred-later k timeout s sent mid next s' e one left e' b c is same vain discarded found =
     let t = length (tickets (k.state s).past) in
     let single = record e { pending = t ∷ [] } in
-    let wait : wait_next k timeout (entered k s e b) single ≡ front_found None mid left = ap (λ x. wait_next k timeout x single) (sym is) ∙ ap (λ x. wait_next k timeout sent x) (sym same) ∙ vain in
-    let in_vain = wait-vain k timeout (entered k s e b) mid single left (omega arith) wait in
-    let after : next ≡ k.discarded (waited k t timeout (entered k s e b)) t = discarded ∙ ap (λ x. k.discarded x t) in_vain.0 in
-    ap (λ x. polled k x single) (or_next-vain k t (λ mid. waited_by_seconds k t (k.discarded mid t)) (waited k t timeout (entered k s e b)) in_vain.2 ∙ ap (waited_by_seconds k t) (sym after)) ∙ found
+    let wait : wait_next k timeout (entered k s e None b) single ≡ front_found None mid left = ap (λ x. wait_next k timeout x single) (sym is) ∙ ap (λ x. wait_next k timeout sent x) (sym same) ∙ vain in
+    let in_vain = wait-vain k timeout (entered k s e None b) mid single left (omega arith) wait in
+    let after : next ≡ k.discarded (waited k t timeout (entered k s e None b)) t = discarded ∙ ap (λ x. k.discarded x t) in_vain.0 in
+    ap (λ x. polled k x single) (or_next-vain k t (λ mid. waited_by_seconds k t (k.discarded mid t)) (waited k t timeout (entered k s e None b)) in_vain.2 ∙ ap (waited_by_seconds k t) (sym after)) ∙ found

@@ -17,9 +17,13 @@ use Rattle.usb_kernel.specs.WholePackets.{is_whole}
 use Rattle.usb_device_endpoint.specs.Submits.{HandsOver, is_valid}
 use Rattle.usb_device_endpoint.proofs.HandleLemmas.{free-ne, with_owner-other, with_owner-same}
 
-pub HandsOver-refused : {A E : Type 0} (r : Result A E) (old new : BusState) (to : Route) (held : Held) (valid : Bool) → OnOk r (IsRefused old new to held 22) → OnOk r (HandsOver old new to held valid)
-HandsOver-refused (Ok x) old new to held valid refused = λ b is. record { refusal = Some 22; ticket = refused b is; invalid = λ _. refl }
-HandsOver-refused (Err e) old new to held valid refused = tt
+-- a refused ticket has no deadline, whatever was asked for
+entered-refused : (old new : BusState) (to : Route) (deadline : Option ℕ) (b : BufferState) (errno : ℕ) → Entered old new to None b (Some errno) → Entered old new to deadline b (Some errno)
+entered-refused old new to deadline b errno is = record { past = is.past; clock = is.clock; owner = is.owner; keys = is.keys; errno = is.errno }
+
+pub HandsOver-refused : {A E : Type 0} (r : Result A E) (old new : BusState) (to : Route) (deadline : Option ℕ) (held : Held) (valid : Bool) → OnOk r (IsRefused old new to held 22) → OnOk r (HandsOver old new to deadline held valid)
+HandsOver-refused (Ok x) old new to deadline held valid refused = λ b is. record { refusal = Some 22; ticket = entered-refused old new to deadline b 22 (refused b is); invalid = λ _. refl }
+HandsOver-refused (Err e) old new to deadline held valid refused = tt
 
 pub IsApart-append : (t u : ℕ) (us : List ℕ) → IsApart t us → t ≢ u → IsApart t (us ++ u ∷ [])
 IsApart-append t u [] all ne = (ne, tt)
@@ -32,9 +36,9 @@ AreHeld-append owner k t (u ∷ us) free held =
     let ne : t ≢ u = free-ne owner t u k free held.0 in
     (with_owner-other owner t k u ne ∙ held.0, IsApart-append u t us held.1 (λ e. ne (sym e)), AreHeld-append owner k t us free held.2)
 
-pub Stands-entered : (old new : BusState) (e next : EndpointState) (b : BufferState) (refusal : Option ℕ) → Stands old e → old.owner (length (tickets old.past)) ≡ None → Entered old new (route_of e) b refusal
+pub Stands-entered : (old new : BusState) (e next : EndpointState) (deadline : Option ℕ) (b : BufferState) (refusal : Option ℕ) → Stands old e → old.owner (length (tickets old.past)) ≡ None → Entered old new (route_of e) deadline b refusal
     → next ≡ record e { pending = e.pending ++ length (tickets old.past) ∷ [] } → Stands new next
-Stands-entered old new e next b refusal stands free done after =
+Stands-entered old new e next deadline b refusal stands free done after =
     rw after (record {
       key_is_open = ap (λ (f : ℕ → Bool). f e.key) done.keys ∙ stands.key_is_open;
       held = subst (λ (f : ℕ → Option ℕ). AreHeld f e.key (e.pending ++ length (tickets old.past) ∷ [])) (sym done.owner) (AreHeld-append old.owner e.key (length (tickets old.past)) e.pending free stands.held);
@@ -44,5 +48,5 @@ valid-in : (e : EndpointState) (b : BufferState) → is_valid e b ≡ true → 1
 valid-in e b valid le = let in_ : nat_le 128 e.address ≡ true = le-leb 128 e.address le in rw in_ at valid
 
 -- what the bus asks of a submission
-pub IsWhole-valid : (e : EndpointState) (b : BufferState) → is_valid e b ≡ true → IsWhole (submission_of (route_of e) b)
-IsWhole-valid e b valid = whole-in (submission_of (route_of e) b) (λ le. whole-times e.maximum b.requested (valid-in e b valid le))
+pub IsWhole-valid : (e : EndpointState) (b : BufferState) → is_valid e b ≡ true → IsWhole (submission_of (route_of e) None b)
+IsWhole-valid e b valid = whole-in (submission_of (route_of e) None b) (λ le. whole-times e.maximum b.requested (valid-in e b valid le))

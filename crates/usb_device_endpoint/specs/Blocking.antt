@@ -1,5 +1,5 @@
 -- How a blocking transfer goes, on any bus.
-use Rattle.std.specs.Prelude.{ℕ, zero, suc, ◌≡◌, List, [], ◌∷◌, length, Some, slice_get}
+use Rattle.std.specs.Prelude.{ℕ, zero, suc, ◌≡◌, List, [], ◌∷◌, length, Some, None, slice_get}
 use Rattle.usb_xfer.specs.BufferState.{BufferState}
 use Rattle.usb_kernel.specs.declared.event.Event.{Event}
 use Rattle.usb_kernel.specs.Tickets.{Ticket, tickets}
@@ -39,5 +39,5 @@ blocked k t timeout s =
 -- a buffer becomes the next ticket, which is waited for and taken, at an endpoint with nothing pending
 abbrev pub transferred : {S : Type 0} → BusCalls S → ℕ → S → EndpointState → BufferState → Polled S
 transferred k timeout s e b =
-    polled k (blocked k (length (tickets (k.state s).past)) timeout (entered k s e b))
+    polled k (blocked k (length (tickets (k.state s).past)) timeout (entered k s e None b))
     (record e { pending = length (tickets (k.state s).past) ∷ [] })

@@ -1,5 +1,5 @@
 -- What calls leave of a bus.
-use Rattle.std.specs.Prelude.{ℕ, Result}
+use Rattle.std.specs.Prelude.{ℕ, Option, Result}
 use Rattle.usb_xfer.specs.declared.transfer.TransferData.{TransferData}
 use Rattle.usb_device_endpoint.specs.declared.route.Route.{Route}
 use Rattle.usb_device_endpoint.specs.declared.route.Turn.{Turn}
@@ -9,7 +9,8 @@ use Rattle.usb_device_endpoint.specs.BusState.{BusState}
 -- that whoever knows the bus itself loses nothing by a call through an endpoint
 pub record BusCalls (S : Type 0) : Type 0 where
   pub state : S → BusState
-  pub submitted : S → Route → TransferData → S
+  -- with a deadline or none
+  pub submitted : S → Route → Option ℕ → TransferData → S
   pub refused : S → Route → TransferData → ℕ → S
   pub discarded : S → ℕ → S
   pub abandoned : S → ℕ → S

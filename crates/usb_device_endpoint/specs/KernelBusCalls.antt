@@ -53,7 +53,7 @@ bus_value h t = value_for (transfer_completion h.kernel.past t) (hold_at h.holds
 abbrev pub with_past : KernelBusState → List Event → KernelBusState
 with_past h past = record h { kernel = record h.kernel { past = past } }
 
--- a buffer is submitted: the next ticket is that of the key
+-- a buffer is submitted, with a deadline or none: the next ticket is that of the key
 abbrev pub hold_for : Route → TransferData → Hold
 hold_for to t = record { key = to.key; endpoint = t.endpoint; kind = t.kind }
 
@@ -64,12 +64,12 @@ bus_entered h s place =
       holds = h.holds ++ Some place ∷ [];
     }
 
-abbrev pub bus_submitted : KernelBusState → Route → TransferData → KernelBusState
-bus_submitted h to t = submitted_with h to t (buffer_held t.held)
+abbrev pub bus_submitted : KernelBusState → Route → Option ℕ → TransferData → KernelBusState
+bus_submitted h to deadline t = submitted_with h to deadline t (buffer_held t.held)
   where
-    submitted_with : KernelBusState → Route → TransferData → Option BufferState → KernelBusState
-    submitted_with h to t None = h
-    submitted_with h to t (Some b) = bus_entered h (submission_of to b) (hold_for to t)
+    submitted_with : KernelBusState → Route → Option ℕ → TransferData → Option BufferState → KernelBusState
+    submitted_with h to deadline t None = h
+    submitted_with h to deadline t (Some b) = bus_entered h (submission_of to deadline b) (hold_for to t)
 
 -- and refused with this errno
 abbrev pub bus_refused : KernelBusState → Route → TransferData → ℕ → KernelBusState
@@ -79,7 +79,7 @@ bus_refused h to t errno = refused_with h to t errno (buffer_held t.held)
     refused_with h to t errno None = h
     refused_with h to t errno (Some b) =
         record h {
-          kernel = kernel_refused h.kernel (submission_of to b) errno;
+          kernel = kernel_refused h.kernel (submission_of to None b) errno;
           holds = h.holds ++ Some (hold_for to t) ∷ [];
         }
 

@@ -47,8 +47,8 @@ EndedStays = (old new : BusState) (t : ℕ) → Moved old new → HasEnded old t
 -- a submission, the bus's own steps and an end are such moves
 abbrev pub EnteredMoves : Type 0
 EnteredMoves =
-    (old new : BusState) (to : Route) (b : BufferState) (refusal : Option ℕ) →
-    Entered old new to b refusal → Moved old new
+    (old new : BusState) (to : Route) (deadline : Option ℕ) (b : BufferState) (refusal : Option ℕ) →
+    Entered old new to deadline b refusal → Moved old new
 
 abbrev pub LaterMoves : Type 0
 LaterMoves = (old new : BusState) → IsLater old new → Moved old new

@@ -1,6 +1,7 @@
 pub mod Routes
 pub mod BusState
 pub mod BusCalls
+pub mod BusHandles
 pub mod Submitted
 pub mod Later
 pub mod Turns

@@ -1,6 +1,6 @@
 //! The contract of a bus.
 
-ghost use Rattle.std.specs.Prelude.{◌≡◌, ◌≤◌, ℕ, true, max, length, None, is_some, IsSome, IsTrue, IfOk, OnOk, OnErr, IfErr};
+ghost use Rattle.std.specs.Prelude.{◌≡◌, ◌≤◌, ℕ, true, max, length, Some, None, is_some, IsSome, IsTrue, IfOk, OnOk, OnErr, IfErr};
 ghost use Rattle.usb_kernel.specs.Tickets.{tickets};
 ghost use Rattle.usb_kernel_devices.specs.Errnos.{IsErrno};
 ghost use Rattle.usb_kernel.specs.Completions.{lowest};
@@ -11,6 +11,7 @@ ghost use Rattle.usb_device_endpoint.specs.declared.route.Route.{Route};
 ghost use Rattle.usb_device_endpoint.specs.declared.route.Turn.{Turn};
 ghost use Rattle.usb_device_endpoint.specs.BusState.{without_owner, without_key};
 ghost use Rattle.usb_device_endpoint.specs.BusCalls.{BusCalls};
+ghost use Rattle.usb_device_endpoint.specs.BusHandles.{KeepsHandles};
 ghost use Rattle.usb_device_endpoint.specs.Routes.{GoesBy, AsksWhole};
 ghost use Rattle.usb_device_endpoint.specs.Submitted.{IsSubmitted, IsRefused};
 ghost use Rattle.usb_device_endpoint.specs.Later.{IsLater};
@@ -27,9 +28,12 @@ pub trait Bus: Slots<TransferData> {
     // What a bus is to the endpoints on it, and what calls leave of it.
     ghost calls: { BusCalls Self };
 
-    /// Submits the buffer of a transfer, which becomes the next ticket: queued, or refused by the
-    /// kernel. The endpoint of the route's key, which must be open, holds the ticket from then on.
-    /// An `Err` is want of memory: the transfer comes back and nothing has changed.
+    // What its user has on the bus beside endpoints goes on standing: of the bus before and after.
+    ghost handles_stand: { Self → Self → Type 0 };
+
+    /// Submits the buffer of a transfer, which becomes the next ticket: queued with no deadline, or
+    /// refused by the kernel. The endpoint of the route's key, which must be open, holds the ticket
+    /// from then on. An `Err` is want of memory: the transfer comes back and nothing has changed.
     fn submit(
         &mut self,
         to: Route,
@@ -42,11 +46,35 @@ pub trait Bus: Slots<TransferData> {
         ensures fresh { OnOk result
             ((calls.state self.old).owner (length (tickets (calls.state self.old).past)) ≡ None) }
         ensures state { OnOk result (IsSubmitted (calls.state self.old)
-            (calls.state self.new) to t.held) }
+            (calls.state self.new) to None t.held) }
         ensures left { OnOk result
             (128 ≤ to.endpoint → (calls.state self.new).turns_left
             ≤ (calls.state self.old).turns_left) }
-        ensures ok { OnOk result (self.new ≡ calls.submitted self.old to t) }
+        ensures ok { OnOk result (self.new ≡ calls.submitted self.old to None t) }
+        ensures err { OnErr result (self.new ≡ self.old) }
+        ensures back { IfErr result (λ back. back ≡ t) };
+
+    /// `submit` with a deadline in nanoseconds of the clock. The first turn of the timer (`idle`) at
+    /// this time or later discards the ticket where it is not finished. A refused ticket has no
+    /// deadline.
+    fn submit_by(
+        &mut self,
+        to: Route,
+        t: Idle<TransferData>,
+        deadline: u64,
+    ) -> Result<Pending<TransferData>, Idle<TransferData>>
+        requires key { (calls.state self.old).keys to.key ≡ true }
+        requires goes { GoesBy t to }
+        requires whole { AsksWhole t to }
+        ensures ticket { IfOk result (λ p. p ≡ length (tickets (calls.state self.old).past)) }
+        ensures fresh { OnOk result
+            ((calls.state self.old).owner (length (tickets (calls.state self.old).past)) ≡ None) }
+        ensures state { OnOk result (IsSubmitted (calls.state self.old)
+            (calls.state self.new) to (Some deadline) t.held) }
+        ensures left { OnOk result
+            (128 ≤ to.endpoint → (calls.state self.new).turns_left
+            ≤ (calls.state self.old).turns_left) }
+        ensures ok { OnOk result (self.new ≡ calls.submitted self.old to (Some deadline) t) }
         ensures err { OnErr result (self.new ≡ self.old) }
         ensures back { IfErr result (λ back. back ≡ t) };
 
@@ -131,6 +159,10 @@ pub trait Bus: Slots<TransferData> {
         ensures state { calls.state self.new ≡ calls.state self.old }
         ensures ok { self.new ≡ calls.halt_cleared self.old device endpoint };
 
+    /// No call on a bus ends a handle that is not an endpoint. It does nothing.
+    fn calls_keep_handles()
+        ensures law { KeepsHandles calls handles_stand };
+
     // A ticket stands in the slots as long as an endpoint holds it.
     ghost stands_is: { (x : Self) (t : ℕ) → Self.stands x t ≡ is_some ((calls.state x).owner t) };
 
@@ -145,4 +177,10 @@ pub trait Bus: Slots<TransferData> {
     // To take it ends the ticket, and changes nothing else.
     ghost state_taken: { (x : Self) (t : ℕ) → calls.state (Self.taken x t)
         ≡ record (calls.state x) { owner = without_owner (calls.state x).owner t } };
+
+    // Handles stand over no call, and over calls in a row.
+    ghost handles_same: { (x : Self) → handles_stand x x };
+
+    ghost handles_in_turn: { (x y z : Self) → handles_stand x y → handles_stand y z
+        → handles_stand x z };
 }

@@ -1,9 +1,10 @@
 //! The queue of an endpoint.
 
-ghost use Rattle.std.specs.Prelude.{◌≡◌, ◌<◌, ◌≤◌, ◌^◌, ◌++◌, ◌∷◌, [], length, IfOk, OnOk, OnErr, IfErr};
+ghost use Rattle.std.specs.Prelude.{◌≡◌, ◌<◌, ◌≤◌, ◌^◌, ◌++◌, ◌∷◌, [], length, Some, None, IfOk, OnOk, OnErr, IfErr};
 ghost use Rattle.usb_desc.specs.Fields.{direction_of_address};
 ghost use Rattle.usb_kernel.specs.Tickets.{tickets};
 ghost use Rattle.usb_kernel.specs.Steps.{after_discard};
+ghost use Rattle.usb_kernel.specs.Timers.{deadline_after};
 ghost use Rattle.usb_device_endpoint.specs.BusState.{without_owner, without_key};
 ghost use Rattle.usb_device_endpoint.specs.Later.{GoesOn};
 ghost use Rattle.usb_error.specs.Errors.{clear_halt_error};
@@ -24,6 +25,7 @@ use std::fmt;
 use std::marker::{Model, PhantomData};
 use usb_desc::{Direction, NoMemory, TransferType};
 use usb_error::Error;
+use usb_kernel::deadline_after;
 use usb_xfer::{
     Any, Buffer, Completion, EndpointDirection, EndpointType, KnownDirection, KnownType, Pending,
     TransferData, take_completed_from_queue,
@@ -218,9 +220,50 @@ impl<T: EndpointType, D: EndpointDirection> Endpoint<T, D> {
         self.address < 128 || is_whole_length(self.maximum, buf.requested_len())
     }
 
-    /// Submits a buffer, which becomes a pending transfer. An IN endpoint is asked for whole
-    /// packets, at least one; any other requested length is refused with 22 (EINVAL), and the
-    /// completion says so.
+    /// Submits a buffer with a deadline or none. An `Err` is want of memory: the buffer comes back
+    /// and nothing has changed.
+    fn submit_as<B: Bus>(
+        &mut self,
+        bus: &mut B,
+        deadline: Option<u64>,
+        buf: Buffer,
+    ) -> Result<(), Buffer>
+        requires few { length self.old.pending < 64 }
+        requires stands { Stands (B.calls.state bus.old) self.old }
+        ensures pending { OnOk result (self.new ≡ record self.old {
+          pending = self.old.pending ++ length (tickets (B.calls.state bus.old).past) ∷ [];
+        }) }
+        ensures bus { OnOk result (bus.new ≡ entered B.calls bus.old self.old deadline buf) }
+        ensures enters { OnOk result
+            (Enters (B.calls.state bus.old) (B.calls.state bus.new) (route_of self.old) deadline buf
+            (is_valid self.old buf)) }
+        ensures left { 128 ≤ self.old.address
+            → (B.calls.state bus.new).turns_left ≤ (B.calls.state bus.old).turns_left }
+        ensures stands { Stands (B.calls.state bus.new) self.new }
+        ensures others { KeepsOthers (B.calls.state bus.old) (B.calls.state bus.new) self.old.key }
+        ensures handles { B.handles_stand bus.old bus.new }
+        ensures rest { self.new ≡ record self.old { pending = self.new.pending } }
+        ensures err { OnErr result ((self.new ≡ self.old) × (bus.new ≡ bus.old)) }
+        ensures back { IfErr result (λ back. back ≡ buf) }
+    {
+        B::calls_keep_handles();
+        let to = self.route();
+        let is_accepted = self.accepts(&buf);
+        if self.pending.reserve(1).is_err() {
+            return Err(buf);
+        }
+        match enter(bus, to, deadline, buf, is_accepted) {
+            Ok(ticket) => {
+                self.pending.push_back_reserved(ticket);
+                Ok(())
+            }
+            Err(back) => Err(back),
+        }
+    }
+
+    /// Submits a buffer, which becomes a pending transfer with no deadline. An IN endpoint is asked
+    /// for whole packets, at least one; any other requested length is refused with 22 (EINVAL), and
+    /// the completion says so.
     ///
     /// # Errors
     ///
@@ -231,30 +274,60 @@ impl<T: EndpointType, D: EndpointDirection> Endpoint<T, D> {
         ensures pending { OnOk result (self.new ≡ record self.old {
           pending = self.old.pending ++ length (tickets (B.calls.state bus.old).past) ∷ [];
         }) }
-        ensures bus { OnOk result (bus.new ≡ entered B.calls bus.old self.old buf) }
+        ensures bus { OnOk result (bus.new ≡ entered B.calls bus.old self.old None buf) }
         ensures enters { OnOk result
-            (Enters (B.calls.state bus.old) (B.calls.state bus.new) (route_of self.old) buf
+            (Enters (B.calls.state bus.old) (B.calls.state bus.new) (route_of self.old) None buf
             (is_valid self.old buf)) }
         ensures left { 128 ≤ self.old.address
             → (B.calls.state bus.new).turns_left ≤ (B.calls.state bus.old).turns_left }
         ensures stands { Stands (B.calls.state bus.new) self.new }
         ensures others { KeepsOthers (B.calls.state bus.old) (B.calls.state bus.new) self.old.key }
+        ensures handles { B.handles_stand bus.old bus.new }
         ensures rest { self.new ≡ record self.old { pending = self.new.pending } }
         ensures err { OnErr result ((self.new ≡ self.old) × (bus.new ≡ bus.old)) }
         ensures back { IfErr result (λ back. back ≡ buf) }
     {
-        let to = self.route();
-        let is_accepted = self.accepts(&buf);
-        if self.pending.reserve(1).is_err() {
-            return Err(buf);
-        }
-        match enter(bus, to, buf, is_accepted) {
-            Ok(ticket) => {
-                self.pending.push_back_reserved(ticket);
-                Ok(())
-            }
-            Err(back) => Err(back),
-        }
+        self.submit_as(bus, None, buf)
+    }
+
+    /// `submit` with a deadline: the clock and `timeout` nanoseconds more, of which a day counts at
+    /// most. A refused transfer has no deadline.
+    ///
+    /// Nothing but the turn of the timer (`Bus::idle`, or a step `KernelStep::Timer`) discards the
+    /// transfer: the first turn at the deadline or later, where the transfer is not finished. The
+    /// bytes that came stay. A wait on an endpoint moves no clock.
+    ///
+    /// # Errors
+    ///
+    /// The buffer, where memory is wanted. Nothing has changed.
+    pub fn submit_with_deadline<B: Bus>(
+        &mut self,
+        bus: &mut B,
+        buf: Buffer,
+        timeout: u64,
+    ) -> Result<(), Buffer>
+        requires few { length self.old.pending < 64 }
+        requires stands { Stands (B.calls.state bus.old) self.old }
+        ensures pending { OnOk result (self.new ≡ record self.old {
+          pending = self.old.pending ++ length (tickets (B.calls.state bus.old).past) ∷ [];
+        }) }
+        ensures bus { OnOk result (bus.new ≡ entered B.calls bus.old self.old
+            (Some (deadline_after (B.calls.state bus.old).clock timeout)) buf) }
+        ensures enters { OnOk result
+            (Enters (B.calls.state bus.old) (B.calls.state bus.new) (route_of self.old)
+            (Some (deadline_after (B.calls.state bus.old).clock timeout)) buf
+            (is_valid self.old buf)) }
+        ensures left { 128 ≤ self.old.address
+            → (B.calls.state bus.new).turns_left ≤ (B.calls.state bus.old).turns_left }
+        ensures stands { Stands (B.calls.state bus.new) self.new }
+        ensures others { KeepsOthers (B.calls.state bus.old) (B.calls.state bus.new) self.old.key }
+        ensures handles { B.handles_stand bus.old bus.new }
+        ensures rest { self.new ≡ record self.old { pending = self.new.pending } }
+        ensures err { OnErr result ((self.new ≡ self.old) × (bus.new ≡ bus.old)) }
+        ensures back { IfErr result (λ back. back ≡ buf) }
+    {
+        let deadline = deadline_after(bus.now(), timeout);
+        self.submit_as(bus, Some(deadline), buf)
     }
 
     /// The completion of the first pending transfer, which is taken, where it is there. The
@@ -267,8 +340,10 @@ impl<T: EndpointType, D: EndpointDirection> Endpoint<T, D> {
         ensures goes_on { GoesOn (B.calls.state bus.old) (B.calls.state bus.new) }
         ensures stands { Stands (B.calls.state bus.new) self.new }
         ensures others { KeepsOthers (B.calls.state bus.old) (B.calls.state bus.new) self.old.key }
+        ensures handles { B.handles_stand bus.old bus.new }
         ensures rest { self.new ≡ record self.old { pending = self.new.pending } }
     {
+        B::calls_keep_handles();
         match take_completed_from_queue(&mut self.pending, bus) {
             Some(transfer) => Poll::Ready(completion_in(transfer)),
             None => Poll::Pending,
@@ -286,8 +361,10 @@ impl<T: EndpointType, D: EndpointDirection> Endpoint<T, D> {
         } }
         ensures stands { Stands (B.calls.state bus.new) self.new }
         ensures others { KeepsOthers (B.calls.state bus.old) (B.calls.state bus.new) self.old.key }
+        ensures handles { B.handles_stand bus.old bus.new }
         ensures rest { self.new ≡ self.old }
     {
+        B::calls_keep_handles();
         'tickets: for i in (0..self.pending.len()).rev() {
             bus.discard(&self.pending[i]);
         }
@@ -303,8 +380,10 @@ impl<T: EndpointType, D: EndpointDirection> Endpoint<T, D> {
         ensures state { B.calls.state bus.new ≡ B.calls.state bus.old }
         ensures stands { Stands (B.calls.state bus.new) self.new }
         ensures others { KeepsOthers (B.calls.state bus.old) (B.calls.state bus.new) self.old.key }
+        ensures handles { B.handles_stand bus.old bus.new }
         ensures rest { self.new ≡ self.old }
     {
+        B::calls_keep_handles();
         match bus.clear_halt(self.device, self.address) {
             Ok(()) => Ok(()),
             Err(errno) => Err(Error::clear_halt(errno)),
@@ -323,6 +402,7 @@ impl<T: EndpointType, D: EndpointDirection> Endpoint<T, D> {
           turns_left = (B.calls.state bus.new).turns_left;
         } }
         ensures others { KeepsOthers (B.calls.state bus.old) (B.calls.state bus.new) self.key }
+        ensures handles { B.handles_stand bus.old bus.new }
     {
         self.cancel_all(bus);
         self.give_up(bus);
@@ -338,7 +418,9 @@ impl<T: EndpointType, D: EndpointDirection> Endpoint<T, D> {
           keys = without_key (B.calls.state bus.old).keys self.key;
         } }
         ensures others { KeepsOthers (B.calls.state bus.old) (B.calls.state bus.new) self.key }
+        ensures handles { B.handles_stand bus.old bus.new }
     {
+        B::calls_keep_handles();
         let Endpoint {
             device: _,
             address: _,

@@ -36,11 +36,12 @@ fn buffer_in(transfer: Idle<TransferData>) -> Buffer
     transfer.into_inner().take_buffer()
 }
 
-/// Submits a transfer, or has it refused where it is not valid. An `Err` is want of memory: the
-/// transfer comes back and nothing has changed.
+/// Submits a transfer, with a deadline or none, or has it refused where it is not valid. An `Err` is
+/// want of memory: the transfer comes back and nothing has changed.
 fn hand_over<B: Bus>(
     bus: &mut B,
     to: Route,
+    deadline: Option<u64>,
     transfer: Idle<TransferData>,
     is_valid: bool,
 ) -> Result<Pending<TransferData>, Idle<TransferData>>
@@ -51,48 +52,52 @@ fn hand_over<B: Bus>(
     ensures fresh { OnOk result
         ((B.calls.state bus.old).owner (length (tickets (B.calls.state bus.old).past)) ≡ None) }
     ensures state { OnOk result
-        (HandsOver (B.calls.state bus.old) (B.calls.state bus.new) to transfer.held is_valid) }
+        (HandsOver (B.calls.state bus.old) (B.calls.state bus.new) to deadline transfer.held
+        is_valid) }
     ensures left { OnOk result
         (128 ≤ to.endpoint → (B.calls.state bus.new).turns_left
         ≤ (B.calls.state bus.old).turns_left) }
     ensures ok { OnOk result
-        (bus.new ≡ handed_over B.calls bus.old to transfer is_valid) }
+        (bus.new ≡ handed_over B.calls bus.old to deadline transfer is_valid) }
     ensures err { OnErr result (bus.new ≡ bus.old) }
     ensures back { IfErr result (λ back. back ≡ transfer) }
 {
-    if is_valid {
-        bus.submit(to, transfer)
-    } else {
-        bus.refuse(to, transfer, errno::INVAL)
+    if !is_valid {
+        return bus.refuse(to, transfer, errno::INVAL);
+    }
+    match deadline {
+        None => bus.submit(to, transfer),
+        Some(deadline) => bus.submit_by(to, transfer, deadline),
     }
 }
 
-/// Makes a buffer the next ticket, which is refused where it is not valid. An `Err` is want of
-/// memory: the buffer comes back and nothing has changed.
+/// Makes a buffer the next ticket, with a deadline or none, which is refused where it is not valid.
+/// An `Err` is want of memory: the buffer comes back and nothing has changed.
 pub(crate) fn enter<B: Bus>(
     bus: &mut B,
     to: Route,
+    deadline: Option<u64>,
     buf: Buffer,
     is_valid: bool,
 ) -> Result<Pending<TransferData>, Buffer>
     requires key { (B.calls.state bus.old).keys to.key ≡ true }
-    requires whole { is_valid ≡ true → IsWhole (submission_of to buf) }
+    requires whole { is_valid ≡ true → IsWhole (submission_of to None buf) }
     ensures ticket { IfOk result (λ p. p ≡ length (tickets (B.calls.state bus.old).past)) }
     ensures fresh { OnOk result
         ((B.calls.state bus.old).owner (length (tickets (B.calls.state bus.old).past)) ≡ None) }
     ensures state { OnOk result (Enters (B.calls.state bus.old)
-        (B.calls.state bus.new) to buf is_valid) }
+        (B.calls.state bus.new) to deadline buf is_valid) }
     ensures left { OnOk result
         (128 ≤ to.endpoint → (B.calls.state bus.new).turns_left
         ≤ (B.calls.state bus.old).turns_left) }
     ensures ok { OnOk result
-        (bus.new ≡ handed_over B.calls bus.old to (transfer_by to buf) is_valid) }
+        (bus.new ≡ handed_over B.calls bus.old to deadline (transfer_by to buf) is_valid) }
     ensures err { OnErr result (bus.new ≡ bus.old) }
     ensures back { IfErr result (λ back. back ≡ buf) }
 {
     let mut transfer = TransferData::new(to.endpoint, to.kind);
     transfer.set_buffer(buf);
-    match hand_over(bus, to, Idle::new(transfer), is_valid) {
+    match hand_over(bus, to, deadline, Idle::new(transfer), is_valid) {
         Ok(ticket) => Ok(ticket),
         Err(back) => Err(buffer_in(back)),
     }

@@ -99,12 +99,17 @@ impl KernelBus {
         store(&mut self.slots, done);
     }
 
-    /// The buffer of a transfer becomes the next ticket.
-    fn submit_transfer(&mut self, to: Route, t: TransferData) -> Result<u64, TransferData>
+    /// The buffer of a transfer becomes the next ticket, with a deadline or none.
+    fn submit_transfer(
+        &mut self,
+        to: Route,
+        deadline: Option<u64>,
+        t: TransferData,
+    ) -> Result<u64, TransferData>
         requires filled { IsFilled t }
         requires whole { AsksWhole t to }
         ensures ticket { IfOk result (λ n. n ≡ length (tickets self.old.kernel.past)) }
-        ensures ok { OnOk result (self.new ≡ bus_submitted self.old to t) }
+        ensures ok { OnOk result (self.new ≡ bus_submitted self.old to deadline t) }
         ensures known { OnOk result
             (IfSome (submit_refusal self.old.kernel.devices self.old.kernel.armed to.device)
             IsErrno) }
@@ -117,7 +122,7 @@ impl KernelBus {
             return Err(data);
         }
         let buffer = data.take_buffer();
-        match self.kernel.submit(to.submission(buffer)) {
+        match self.kernel.submit(to.submission(deadline, buffer)) {
             Ok(submitted) => Ok(add_slot(&mut self.slots, to.key, data, submitted)),
             Err(back) => {
                 data.set_buffer(back.buffer);
@@ -146,7 +151,7 @@ impl KernelBus {
             return Err(data);
         }
         let buffer = data.take_buffer();
-        match self.kernel.refuse(to.submission(buffer), errno) {
+        match self.kernel.refuse(to.submission(None, buffer), errno) {
             Ok(submitted) => Ok(add_slot(&mut self.slots, to.key, data, submitted)),
             Err(back) => {
                 data.set_buffer(back.buffer);
@@ -229,12 +234,26 @@ impl Slots<TransferData> for KernelBus {
 impl Bus for KernelBus {
     ghost calls = { kernel_bus_calls };
 
+    ghost handles_stand = { λ old new. Unit {0} };
+
     fn submit(
         &mut self,
         to: Route,
         t: Idle<TransferData>,
     ) -> Result<Pending<TransferData>, Idle<TransferData>> {
-        match self.submit_transfer(to, t.into_inner()) {
+        match self.submit_transfer(to, None, t.into_inner()) {
+            Ok(ticket) => Ok(Pending::new(ticket)),
+            Err(back) => Err(Idle::new(back)),
+        }
+    }
+
+    fn submit_by(
+        &mut self,
+        to: Route,
+        t: Idle<TransferData>,
+        deadline: u64,
+    ) -> Result<Pending<TransferData>, Idle<TransferData>> {
+        match self.submit_transfer(to, Some(deadline), t.into_inner()) {
             Ok(ticket) => Ok(Pending::new(ticket)),
             Err(back) => Err(Idle::new(back)),
         }
@@ -280,6 +299,8 @@ impl Bus for KernelBus {
         self.kernel.clear_halt(device, endpoint)
     }
 
+    fn calls_keep_handles() {}
+
     ghost stands_is = { λ x t. refl };
 
     ghost value_is = { bus_value-holds };
@@ -287,4 +308,8 @@ impl Bus for KernelBus {
     ghost taken_is = { λ x t. refl };
 
     ghost state_taken = { bus_of-without_owner };
+
+    ghost handles_same = { λ x. tt };
+
+    ghost handles_in_turn = { λ x y z first second. tt };
 }

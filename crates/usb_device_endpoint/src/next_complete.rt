@@ -31,6 +31,7 @@ impl<'a, T: EndpointType, D: EndpointDirection> NextComplete<'a, T, D> {
         ensures stands { Stands (B.calls.state bus.new) self.new.endpoint.now }
         ensures others { KeepsOthers (B.calls.state bus.old)
             (B.calls.state bus.new) self.old.endpoint.now.key }
+        ensures handles { B.handles_stand bus.old bus.new }
         ensures rest { self.new.endpoint.now ≡ record self.old.endpoint.now {
           pending = self.new.endpoint.now.pending;
         } }

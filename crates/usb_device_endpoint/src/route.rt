@@ -20,16 +20,17 @@ pub struct Route {
 }
 
 impl Route {
-    /// A buffer as it is submitted by this route: with no deadline and no setup packet.
-    pub fn submission(self, buffer: Buffer) -> Submission
-        ensures submission { result ≡ submission_of self buffer }
+    /// A buffer as it is submitted by this route: with no setup packet, and with a deadline in
+    /// nanoseconds of the clock or none.
+    pub fn submission(self, deadline: Option<u64>, buffer: Buffer) -> Submission
+        ensures submission { result ≡ submission_of self deadline buffer }
     {
         Submission {
             device: self.device,
             endpoint: self.endpoint,
             kind: self.kind,
             maximum: self.maximum,
-            deadline: None,
+            deadline,
             setup: None,
             buffer,
         }

@@ -38,8 +38,10 @@ impl<T: EndpointType, D: EndpointDirection> Endpoint<T, D> {
         ensures goes_on { GoesOn (B.calls.state bus.old) (B.calls.state bus.new) }
         ensures stands { Stands (B.calls.state bus.new) self.new }
         ensures others { KeepsOthers (B.calls.state bus.old) (B.calls.state bus.new) self.old.key }
+        ensures handles { B.handles_stand bus.old bus.new }
         ensures rest { self.new ≡ record self.old { pending = self.new.pending } }
     {
+        B::calls_keep_handles();
         let start = bus.now();
         'turns: loop {
             if let Poll::Ready(found) = self.poll_next_complete(bus) {
@@ -65,6 +67,7 @@ impl<T: EndpointType, D: EndpointDirection> Endpoint<T, D> {
             ≡ front_found (Some result) bus.new self.new }
         ensures stands { Stands (B.calls.state bus.new) self.new }
         ensures others { KeepsOthers (B.calls.state bus.old) (B.calls.state bus.new) self.old.key }
+        ensures handles { B.handles_stand bus.old bus.new }
     {
         finished_can_be_reaped();
         extensions_keep_tickets();
@@ -96,6 +99,7 @@ impl<T: EndpointType, D: EndpointDirection> Endpoint<T, D> {
             ≡ front_found (Some c) bus.new self.new) }
         ensures stands { Stands (B.calls.state bus.new) self.new }
         ensures others { KeepsOthers (B.calls.state bus.old) (B.calls.state bus.new) self.old.key }
+        ensures handles { B.handles_stand bus.old bus.new }
         ensures rest { self.new ≡ self.old }
         ensures err { OnErr result (bus.new ≡ bus.old) }
         ensures back { IfErr result (λ back. back ≡ buf) }

@@ -19,4 +19,5 @@ tickets-preserved g c =
     record {
       bus = c.discard.ensures.ok ∙ all_discarded-step g.B.Bus.calls.discarded c.args.bus.now c.tickets.bus c.self.inside.pending.items c.tickets.i c.index.result.now (omega arith) (omega arith) c.index.ensures c.tickets.invariant.bus;
       state = discarded-state (g.B.Bus.calls.state c.args.bus.now) (g.B.Bus.calls.state c.tickets.bus) (g.B.Bus.calls.state c.discard.new.self) c.self.inside.pending.items c.tickets.i c.index.result.now (omega arith) (omega arith) c.index.ensures c.tickets.invariant.state c.discard.ensures.state;
+      handles = g.met.B.Bus.handles_in_turn c.args.bus.now c.tickets.bus _ c.tickets.invariant.handles (rw c.discard.ensures.ok (c.calls_keep_handles.ensures.law.discarded c.tickets.bus c.index.result.now));
     }

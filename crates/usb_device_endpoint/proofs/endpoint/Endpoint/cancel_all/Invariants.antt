@@ -10,4 +10,5 @@ invariant-tickets g l = record {
     past = all_discarded after_discard (g.B.Bus.calls.state l.initial.bus).past (drop l.i l.self-inside.pending.items);
     turns_left = (g.B.Bus.calls.state l.bus).turns_left;
   };
+  handles : g.B.Bus.handles_stand l.initial.bus l.bus;
 }

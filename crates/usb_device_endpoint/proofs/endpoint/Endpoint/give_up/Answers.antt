@@ -17,4 +17,5 @@ tickets-preserved g c =
       others = KeepsOthers-end _ (g.B.Bus.calls.state c.tickets.bus) _ c.self.inside.key t c.tickets.invariant.others held.0 after;
       owner = ap (λ (b : BusState). all_abandoned without_owner b.owner c.pop_front.new.self.items) after ∙ rw items at c.tickets.invariant.owner;
       state = owner-only (g.B.Bus.calls.state c.args.bus.now) (g.B.Bus.calls.state c.tickets.bus) (g.B.Bus.calls.state c.abandon.new.self) (without_owner (g.B.Bus.calls.state c.tickets.bus).owner t) after c.tickets.invariant.state;
+      handles = g.met.B.Bus.handles_in_turn c.args.bus.now c.tickets.bus _ c.tickets.invariant.handles (rw c.abandon.ensures.ok (c.calls_keep_handles.ensures.law.abandoned c.tickets.bus t));
     }

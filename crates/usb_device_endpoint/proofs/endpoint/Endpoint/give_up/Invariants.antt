@@ -12,6 +12,7 @@ invariant-tickets g l = record {
   others : KeepsOthers (g.B.Bus.calls.state l.initial.bus) (g.B.Bus.calls.state l.bus) l.key;
   owner : all_abandoned without_owner (g.B.Bus.calls.state l.bus).owner l.pending.items ≡ all_abandoned without_owner (g.B.Bus.calls.state l.initial.bus).owner l.initial.pending.items;
   state : g.B.Bus.calls.state l.bus ≡ record (g.B.Bus.calls.state l.initial.bus) { owner = (g.B.Bus.calls.state l.bus).owner };
+  handles : g.B.Bus.handles_stand l.initial.bus l.bus;
 }
 
 abbrev pub decreases-tickets : goal.decreases-tickets

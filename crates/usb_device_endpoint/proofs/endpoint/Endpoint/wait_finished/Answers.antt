@@ -15,6 +15,7 @@ waits-init g c = record {
   others = record { tickets = λ t k apart held. held; keys = λ k apart open_. open_ };
   finished = c.requires.finished;
   seconds = seconds-first g.B.Bus.calls (front_of c.args.self.now.pending) c.args.bus.now;
+  handles = g.met.B.Bus.handles_same c.args.bus.now;
 }
 
 pub returns-in-Some-clause-found : goal.returns-in-Some-clause-found
@@ -42,4 +43,5 @@ waits-preserved g c =
       others = others_in_turn _ _ _ c.args.self.now.key c.waits.invariant.others others;
       finished = IsFinished-later _ _ (front_of c.args.self.now.pending) c.extensions_keep_tickets.ensures.ticket c.extensions_keep_tickets.ensures.status c.wait_next_complete.ensures.goes_on.past c.waits.invariant.finished;
       seconds = seconds-more g.B.Bus.calls c.args.bus.now c.waits.bus _ c.args.self.now _ c.waits.invariant.seconds c.requires.some wait falls;
+      handles = g.met.B.Bus.handles_in_turn c.args.bus.now c.waits.bus _ c.waits.invariant.handles c.wait_next_complete.ensures.handles;
     }

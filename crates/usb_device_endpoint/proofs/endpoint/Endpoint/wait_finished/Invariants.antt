@@ -12,6 +12,7 @@ invariant-waits g l = record {
   others : KeepsOthers (g.B.Bus.calls.state l.initial.bus) (g.B.Bus.calls.state l.bus) l.initial.self.key;
   finished : IsFinished (g.B.Bus.calls.state l.bus).past (front_of l.initial.self.pending);
   seconds : Seconds g.B.Bus.calls (front_of l.initial.self.pending) l.initial.bus l.bus;
+  handles : g.B.Bus.handles_stand l.initial.bus l.bus;
 }
 
 abbrev pub decreases-waits : goal.decreases-waits

@@ -18,6 +18,7 @@ turns-init g c = record {
   first = inl refl;
   moved = λ later. absurd (omega (arith, later));
   looks = looks-first g.B.Bus.calls (front_of c.args.self.now.pending) c.args.timeout c.args.bus.now;
+  handles = g.met.B.Bus.handles_same c.args.bus.now;
 }
 
 pub returns-in-Ready-clause-waited : goal.returns-in-Ready-clause-waited
@@ -74,6 +75,11 @@ returns-then-is_time_up-clause-waited g c =
 pub returns-then-is_time_up-clause-goes_on : goal.returns-then-is_time_up-clause-goes_on
 returns-then-is_time_up-clause-goes_on g c = GoesOn-trans _ (g.B.Bus.calls.state c.poll_next_complete.new.bus) _ (GoesOn-trans _ (g.B.Bus.calls.state c.turns.bus) _ c.turns.invariant.goes_on c.poll_next_complete.ensures.goes_on) (GoesOn-turn c.turn.result _ _ c.turn.ensures.state c.turn.ensures.falls)
 
+pub returns-then-is_time_up-clause-handles : goal.returns-then-is_time_up-clause-handles
+returns-then-is_time_up-clause-handles g c =
+    let polls = g.met.B.Bus.handles_in_turn c.args.bus.now c.turns.bus _ c.turns.invariant.handles c.poll_next_complete.ensures.handles in
+    g.met.B.Bus.handles_in_turn c.args.bus.now c.poll_next_complete.new.bus _ polls (rw c.turn.ensures.ok (c.calls_keep_handles.ensures.law.turned c.poll_next_complete.new.bus))
+
 pub returns-then-is_time_up-clause-why : goal.returns-then-is_time_up-clause-why
 returns-then-is_time_up-clause-why g c =
     let poll = polled-same g.B.Bus.calls c.turns.bus c.turns.self c.args.self.now _ c.turns.invariant.same c.in_default.ensures.polled in
@@ -98,6 +104,7 @@ turns-preserved g c =
     let less = Falls-strict c.turn.result _ _ (sym c.is_time_up.ensures.up ∙ c.if-is_time_up.false) c.turn.ensures.falls in
     let polled = c.poll_next_complete.ensures.goes_on.left in
     let so_far = c.turns.invariant.goes_on.left in
+    let polls = g.met.B.Bus.handles_in_turn c.args.bus.now c.turns.bus _ c.turns.invariant.handles c.poll_next_complete.ensures.handles in
     record {
       same = left.1;
       stands = Stands-later (g.B.Bus.calls.state c.poll_next_complete.new.bus) _ c.poll_next_complete.new.self c.poll_next_complete.ensures.stands c.turn.ensures.state;
@@ -108,4 +115,5 @@ turns-preserved g c =
       looks = Looks-at g.B.Bus.calls (front_of c.args.self.now.pending) c.args.timeout c.args.bus.now c.turns.bus c.turn.new.self after
           (λ falls. looks-more g.B.Bus.calls (front_of c.args.self.now.pending) c.args.timeout c.args.bus.now c.turns.bus c.turns.invariant.looks left.2 early (sym gives ∙ c.if-is_time_up.false) falls)
           (omega (arith, less, polled));
+      handles = g.met.B.Bus.handles_in_turn c.args.bus.now c.poll_next_complete.new.bus _ polls (rw c.turn.ensures.ok (c.calls_keep_handles.ensures.law.turned c.poll_next_complete.new.bus));
     }

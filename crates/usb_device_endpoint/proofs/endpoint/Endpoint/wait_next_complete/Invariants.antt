@@ -14,6 +14,7 @@ invariant-turns g l = record {
   first : (g.B.Bus.calls.state l.bus ≡ g.B.Bus.calls.state l.initial.bus) ⊎ ((g.B.Bus.calls.state l.bus).turns_left < (g.B.Bus.calls.state l.initial.bus).turns_left);
   moved : (g.B.Bus.calls.state l.initial.bus).clock < (g.B.Bus.calls.state l.bus).clock → (g.B.Bus.calls.state l.bus).turns_left < (g.B.Bus.calls.state l.initial.bus).turns_left;
   looks : Looks g.B.Bus.calls (front_of l.initial.self.pending) l.timeout l.initial.bus l.bus;
+  handles : g.B.Bus.handles_stand l.initial.bus l.bus;
 }
 
 abbrev pub decreases-turns : goal.decreases-turns
