@@ -177,9 +177,9 @@ owner-append [] hold (suc u) = rw (eqb-zero-suc u) refl
 owner-append (x ∷ xs) hold zero = rw (eqb-suc-zero (length xs)) refl
 owner-append (x ∷ xs) hold (suc u) = rw (eqb-suc-suc (length xs) u) (owner-append xs hold u)
 
-submitted-some : (h : HostState) (to : Route) (t : TransferData) (b : BufferState) → buffer_held t.held ≡ Some b → host_submitted h to t ≡ submitted_with h to t (Some b)
+submitted-some : (h : HostState) (to : Route) (deadline : Option ℕ) (t : TransferData) (b : BufferState) → buffer_held t.held ≡ Some b → host_submitted h to deadline t ≡ submitted_with h to deadline t (Some b)
 unfolding host_submitted
-submitted-some h to t b some = rw some refl
+submitted-some h to deadline t b some = rw some refl
 
 refused-some : (h : HostState) (to : Route) (t : TransferData) (errno : ℕ) (b : BufferState) → buffer_held t.held ≡ Some b → host_refused h to t errno ≡ refused_with h to t errno (Some b)
 unfolding host_refused
@@ -188,13 +188,13 @@ refused-some h to t errno b some = rw some refl
 owner-new : (old : HostState) (hold : Hold) → length old.tickets ≡ length (tickets old.kernel.past) → owner_at (old.tickets ++ HeldBy hold ∷ []) ≡ with_owner (owner_at old.tickets) (length (tickets old.kernel.past)) hold.key
 owner-new old hold count = rw (← count) (fun_ext (owner-append old.tickets hold))
 
-pub submitted-state : (old new : HostState) (to : Route) (t : TransferData) (b : BufferState) → length old.tickets ≡ length (tickets old.kernel.past) → new ≡ host_submitted old to t → buffer_held t.held ≡ Some b → IfSome (submit_refusal old.kernel.devices old.kernel.armed to.device) IsErrno
-    → Entered (bus_of old) (bus_of new) to b (submit_refusal old.kernel.devices old.kernel.armed to.device)
-submitted-state old new to t b count is some known =
-    rw (is ∙ submitted-some old to t b some) (record { past = refl; clock = refl; owner = owner-new old (record { key = to.key; endpoint = t.endpoint; kind = t.kind }) count; keys = refl; errno = known })
+pub submitted-state : (old new : HostState) (to : Route) (deadline : Option ℕ) (t : TransferData) (b : BufferState) → length old.tickets ≡ length (tickets old.kernel.past) → new ≡ host_submitted old to deadline t → buffer_held t.held ≡ Some b → IfSome (submit_refusal old.kernel.devices old.kernel.armed to.device) IsErrno
+    → Entered (bus_of old) (bus_of new) to deadline b (submit_refusal old.kernel.devices old.kernel.armed to.device)
+submitted-state old new to deadline t b count is some known =
+    rw (is ∙ submitted-some old to deadline t b some) (record { past = refl; clock = refl; owner = owner-new old (record { key = to.key; endpoint = t.endpoint; kind = t.kind }) count; keys = refl; errno = known })
 
 pub refused-state : (old new : HostState) (to : Route) (t : TransferData) (errno : ℕ) (b : BufferState) → length old.tickets ≡ length (tickets old.kernel.past) → new ≡ host_refused old to t errno → buffer_held t.held ≡ Some b → IsErrno errno
-    → Entered (bus_of old) (bus_of new) to b (Some errno)
+    → Entered (bus_of old) (bus_of new) to None b (Some errno)
 refused-state old new to t errno b count is some known =
     rw (is ∙ refused-some old to t errno b some) (record { past = refl; clock = refl; owner = owner-new old (record { key = to.key; endpoint = t.endpoint; kind = t.kind }) count; keys = refl; errno = known })
 
@@ -203,14 +203,14 @@ waiting-entered : (past : List Event) (s : Submission) (refusal : Option ℕ) �
 waiting-entered past s None = waiting-submit past (length (tickets past)) s.device s.endpoint s.maximum _ s.buffer.room s.deadline
 waiting-entered past s (Some errno) = waiting-refuse past (length (tickets past)) s.device s.endpoint s.maximum _ s.buffer.room errno
 
-pub submitted-left : (old new : HostState) (to : Route) (t : TransferData) (b : BufferState) → new ≡ host_submitted old to t → buffer_held t.held ≡ Some b → turns_left new ≡ turns_left old
-submitted-left old new to t b is some =
-    let w = waiting-entered old.kernel.past (submission_of to b) (submit_refusal old.kernel.devices old.kernel.armed to.device) in
-    rw (is ∙ submitted-some old to t b some) (ap (λ (ts : List ℕ). length old.steps * 2 ^ 64 + length ts) w)
+pub submitted-left : (old new : HostState) (to : Route) (deadline : Option ℕ) (t : TransferData) (b : BufferState) → new ≡ host_submitted old to deadline t → buffer_held t.held ≡ Some b → turns_left new ≡ turns_left old
+submitted-left old new to deadline t b is some =
+    let w = waiting-entered old.kernel.past (submission_of to deadline b) (submit_refusal old.kernel.devices old.kernel.armed to.device) in
+    rw (is ∙ submitted-some old to deadline t b some) (ap (λ (ts : List ℕ). length old.steps * 2 ^ 64 + length ts) w)
 
 pub refused-left : (old new : HostState) (to : Route) (t : TransferData) (errno : ℕ) (b : BufferState) → new ≡ host_refused old to t errno → buffer_held t.held ≡ Some b → turns_left new ≡ turns_left old
 refused-left old new to t errno b is some =
-    let w = waiting-entered old.kernel.past (submission_of to b) (Some errno) in
+    let w = waiting-entered old.kernel.past (submission_of to None b) (Some errno) in
     rw (is ∙ refused-some old to t errno b some) (ap (λ (ts : List ℕ). length old.steps * 2 ^ 64 + length ts) w)
 
 pub some-buffer : (t : TransferData) → IsFilled t → (b : BufferState) × (buffer_held t.held ≡ Some b)

@@ -32,13 +32,13 @@ pub keeps-open : (h : HostState) → KeepsOpen h h
 keeps-open h = record { line = record { steps = refl; spare = refl; devices = refl }; interfaces = goes-refl h.interfaces; endpoints = goes-refl h.endpoints }
 
 -- a submission adds a ticket, and changes the journal and the armed refusals
-submitted_with-keeps : (h : HostState) (to : Route) (t : TransferData) (o : Option BufferState) → KeepsOpen h (submitted_with h to t o)
-submitted_with-keeps h to t None = keeps-open h
-submitted_with-keeps h to t (Some b) = record { line = record { steps = refl; spare = refl; devices = refl }; interfaces = goes-refl h.interfaces; endpoints = goes-refl h.endpoints }
+submitted_with-keeps : (h : HostState) (to : Route) (deadline : Option ℕ) (t : TransferData) (o : Option BufferState) → KeepsOpen h (submitted_with h to deadline t o)
+submitted_with-keeps h to deadline t None = keeps-open h
+submitted_with-keeps h to deadline t (Some b) = record { line = record { steps = refl; spare = refl; devices = refl }; interfaces = goes-refl h.interfaces; endpoints = goes-refl h.endpoints }
 
-pub keeps-submitted : (h : HostState) (to : Route) (t : TransferData) → KeepsOpen h (host_submitted h to t)
+pub keeps-submitted : (h : HostState) (to : Route) (deadline : Option ℕ) (t : TransferData) → KeepsOpen h (host_submitted h to deadline t)
 unfolding host_submitted
-keeps-submitted h to t = submitted_with-keeps h to t (buffer_held t.held)
+keeps-submitted h to deadline t = submitted_with-keeps h to deadline t (buffer_held t.held)
 
 -- so does one that is refused
 refused_with-keeps : (h : HostState) (to : Route) (t : TransferData) (errno : ℕ) (o : Option BufferState) → KeepsOpen h (refused_with h to t errno o)

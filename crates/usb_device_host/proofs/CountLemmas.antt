@@ -208,12 +208,12 @@ pub submit_event-count : (past : List Event) (t : ℕ) (s : Submission) (o : Opt
 submit_event-count past t s None = omega (arith, length-append {A = Ticket})
 submit_event-count past t s (Some errno) = omega (arith, length-append {A = Ticket})
 
-submitted-count : (h : HostState) (to : Route) (b : BufferState) → CountsOneMore h (host_submitted h to (transfer_by to b))
+submitted-count : (h : HostState) (to : Route) (deadline : Option ℕ) (b : BufferState) → CountsOneMore h (host_submitted h to deadline (transfer_by to b))
 unfolding host_submitted
-submitted-count h to b =
+submitted-count h to deadline b =
     record {
       count = length-append h.tickets _ ∙ refl;
-      past = submit_event-count h.kernel.past (length (tickets h.kernel.past)) (submission_of to b) (submit_refusal h.kernel.devices h.kernel.armed (submission_of to b).device);
+      past = submit_event-count h.kernel.past (length (tickets h.kernel.past)) (submission_of to deadline b) (submit_refusal h.kernel.devices h.kernel.armed to.device);
     }
 
 refused-count : (h : HostState) (to : Route) (b : BufferState) (errno : ℕ) → CountsOneMore h (host_refused h to (transfer_by to b) errno)
@@ -221,10 +221,10 @@ unfolding host_refused
 refused-count h to b errno =
     record {
       count = length-append h.tickets _ ∙ refl;
-      past = submit_event-count h.kernel.past (length (tickets h.kernel.past)) (submission_of to b) (Some errno);
+      past = submit_event-count h.kernel.past (length (tickets h.kernel.past)) (submission_of to None b) (Some errno);
     }
 
-pub entered-count : (h : HostState) (e : EndpointState) (b : BufferState) → CountsOneMore h (entered host_calls h e b)
-entered-count h e b =
-    cond_both (is_valid e b) (host_submitted h (route_of e) (transfer_by (route_of e) b)) (host_refused h (route_of e) (transfer_by (route_of e) b) 22) (CountsOneMore h)
-    (λ yes_. submitted-count h (route_of e) b) (λ no_. refused-count h (route_of e) b 22)
+pub entered-count : (h : HostState) (e : EndpointState) (deadline : Option ℕ) (b : BufferState) → CountsOneMore h (entered host_calls h e deadline b)
+entered-count h e deadline b =
+    cond_both (is_valid e b) (host_submitted h (route_of e) deadline (transfer_by (route_of e) b)) (host_refused h (route_of e) (transfer_by (route_of e) b) 22) (CountsOneMore h)
+    (λ yes_. submitted-count h (route_of e) deadline b) (λ no_. refused-count h (route_of e) b 22)

@@ -1,5 +1,5 @@
 -- What the calls of an endpoint leave as it was at a host.
-use Rattle.std.proofs.Common.{ℕ, true, false, cond, List, [], ◌∷◌, refl, ◌∙◌}
+use Rattle.std.proofs.Common.{ℕ, true, false, cond, List, [], ◌∷◌, Option, refl, ◌∙◌}
 use Rattle.usb_xfer.specs.BufferState.{BufferState}
 use Rattle.usb_device_endpoint.specs.EndpointState.{EndpointState, route_of}
 use Rattle.usb_device_endpoint.specs.Submits.{is_valid, transfer_by, entered}
@@ -16,10 +16,10 @@ use Rattle.usb_device_host.proofs.HostFrames.{uses-discarded}
 use Rattle.usb_device_host.proofs.WaitFrames.{went-uses, went-nowhere, went-trans}
 
 -- a submission keeps what is open, valid or not
-pub keeps-entered : (h : HostState) (e : EndpointState) (b : BufferState) → KeepsOpen h (entered host_calls h e b)
-keeps-entered h e b =
-    elim (is_valid e b) as (λ v. KeepsOpen h (cond v (host_submitted h (route_of e) (transfer_by (route_of e) b)) (host_refused h (route_of e) (transfer_by (route_of e) b) 22))) [
-      | true ↦ keeps-submitted h (route_of e) (transfer_by (route_of e) b)
+pub keeps-entered : (h : HostState) (e : EndpointState) (deadline : Option ℕ) (b : BufferState) → KeepsOpen h (entered host_calls h e deadline b)
+keeps-entered h e deadline b =
+    elim (is_valid e b) as (λ v. KeepsOpen h (cond v (host_submitted h (route_of e) deadline (transfer_by (route_of e) b)) (host_refused h (route_of e) (transfer_by (route_of e) b) 22))) [
+      | true ↦ keeps-submitted h (route_of e) deadline (transfer_by (route_of e) b)
       | false ↦ keeps-refused h (route_of e) (transfer_by (route_of e) b) 22
     ]
 

@@ -62,14 +62,14 @@ TicketsAgree-enter past slots s refusal key transfer agree held =
     }
 
 -- the host then
-pub submitted-made : (k k' : KernelState) (devices : List (Option OpenDevice)) (l l' : LedgerState) (steps : List KernelStep) (to : Route) (t : TransferData) (b : BufferState) (held : HeldData) (room : ℕ) → buffer_held t.held ≡ Some b
-    → k' ≡ record k { past = after_submit k.devices k.armed k.past (submission_of to b); armed = armed_after_submit k.devices k.armed (submission_of to b) }
-    → l' ≡ record l { slots = l.slots ++ slot.HeldBy to.key (record t { held = held }) ∷ []; room = room; slot_count = slots_with (tickets_in l) l.slot_count } → host_made k' devices l' steps ≡ host_submitted (host_made k devices l steps) to t
+pub submitted-made : (k k' : KernelState) (devices : List (Option OpenDevice)) (l l' : LedgerState) (steps : List KernelStep) (to : Route) (deadline : Option ℕ) (t : TransferData) (b : BufferState) (held : HeldData) (room : ℕ) → buffer_held t.held ≡ Some b
+    → k' ≡ record k { past = after_submit k.devices k.armed k.past (submission_of to deadline b); armed = armed_after_submit k.devices k.armed (submission_of to deadline b) }
+    → l' ≡ record l { slots = l.slots ++ slot.HeldBy to.key (record t { held = held }) ∷ []; room = room; slot_count = slots_with (tickets_in l) l.slot_count } → host_made k' devices l' steps ≡ host_submitted (host_made k devices l steps) to deadline t
 unfolding host_submitted
-submitted-made k k' devices l l' steps to t b held room some kernel ledger = rw (some, kernel, ledger, map-append) refl
+submitted-made k k' devices l l' steps to deadline t b held room some kernel ledger = rw (some, kernel, ledger, map-append) refl
 
 pub refused-made : (k k' : KernelState) (devices : List (Option OpenDevice)) (l l' : LedgerState) (steps : List KernelStep) (to : Route) (t : TransferData) (errno : ℕ) (b : BufferState) (held : HeldData) (room : ℕ) → buffer_held t.held ≡ Some b
-    → k' ≡ record k { past = after_refuse k.past (submission_of to b) errno }
+    → k' ≡ record k { past = after_refuse k.past (submission_of to None b) errno }
     → l' ≡ record l { slots = l.slots ++ slot.HeldBy to.key (record t { held = held }) ∷ []; room = room; slot_count = slots_with (tickets_in l) l.slot_count } → host_made k' devices l' steps ≡ host_refused (host_made k devices l steps) to t errno
 unfolding host_refused
 refused-made k k' devices l l' steps to t errno b held room some kernel ledger = rw (some, kernel, ledger, map-append) refl

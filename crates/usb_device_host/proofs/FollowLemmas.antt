@@ -238,12 +238,12 @@ pub record Adds (old new : HostState) : Type 0 where
 pub submit_event-on : (past : List Event) (t : ℕ) (s : Submission) (o : Option ℕ) → Extends past (submit_or_refuse t s o ∷ past)
 submit_event-on past t s o = extends-event past (submit_or_refuse t s o)
 
-adds-submitted : (h : HostState) (to : Route) (b : BufferState) → Adds h (host_submitted h to (transfer_by to b))
+adds-submitted : (h : HostState) (to : Route) (deadline : Option ℕ) (b : BufferState) → Adds h (host_submitted h to deadline (transfer_by to b))
 unfolding host_submitted
-adds-submitted h to b =
+adds-submitted h to deadline b =
     record {
       goes = record {
-        past = submit_event-on h.kernel.past (length (tickets h.kernel.past)) (submission_of to b) (submit_refusal h.kernel.devices h.kernel.armed (submission_of to b).device);
+        past = submit_event-on h.kernel.past (length (tickets h.kernel.past)) (submission_of to deadline b) (submit_refusal h.kernel.devices h.kernel.armed to.device);
         tickets = λ t. follows-push h.tickets _ t (slice_get h.tickets t) refl;
       };
       hold = _;
@@ -255,17 +255,17 @@ unfolding host_refused
 adds-refused h to b errno =
     record {
       goes = record {
-        past = submit_event-on h.kernel.past (length (tickets h.kernel.past)) (submission_of to b) (Some errno);
+        past = submit_event-on h.kernel.past (length (tickets h.kernel.past)) (submission_of to None b) (Some errno);
         tickets = λ t. follows-push h.tickets _ t (slice_get h.tickets t) refl;
       };
       hold = _;
       last = slice_get-append_seam h.tickets _;
     }
 
-pub adds-entered : (h : HostState) (e : EndpointState) (b : BufferState) → Adds h (entered host_calls h e b)
-adds-entered h e b =
-    cond_both (is_valid e b) (host_submitted h (route_of e) (transfer_by (route_of e) b)) (host_refused h (route_of e) (transfer_by (route_of e) b) 22) (Adds h)
-    (λ yes_. adds-submitted h (route_of e) b) (λ no_. adds-refused h (route_of e) b 22)
+pub adds-entered : (h : HostState) (e : EndpointState) (deadline : Option ℕ) (b : BufferState) → Adds h (entered host_calls h e deadline b)
+adds-entered h e deadline b =
+    cond_both (is_valid e b) (host_submitted h (route_of e) deadline (transfer_by (route_of e) b)) (host_refused h (route_of e) (transfer_by (route_of e) b) 22) (Adds h)
+    (λ yes_. adds-submitted h (route_of e) deadline b) (λ no_. adds-refused h (route_of e) b 22)
 
 -- a ticket is taken
 pub taken-past : (h : HostState) (t : ℕ) → (host_taken h t).kernel.past ≡ h.kernel.past

@@ -76,15 +76,15 @@ owner-last (x ∷ xs) hold (suc t) k own = elim (owner-last xs hold t k own) [ i
 abbrev IsNewOr : HostState → ℕ → HostState → Type 0
 IsNewOr h key g = (t k : ℕ) → owner_at g.tickets t ≡ Some k → ((t ≡ length h.tickets) × (k ≡ key)) ⊎ (owner_at h.tickets t ≡ Some k)
 
-submitted-held : (h : HostState) (to : Route) (b : BufferState) → IsNewOr h to.key (host_submitted h to (transfer_by to b))
+submitted-held : (h : HostState) (to : Route) (deadline : Option ℕ) (b : BufferState) → IsNewOr h to.key (host_submitted h to deadline (transfer_by to b))
 unfolding host_submitted
-submitted-held h to b t k own = owner-last h.tickets (record { key = to.key; endpoint = to.endpoint; kind = to.kind }) t k own
+submitted-held h to deadline b t k own = owner-last h.tickets (record { key = to.key; endpoint = to.endpoint; kind = to.kind }) t k own
 
 refused-held : (h : HostState) (to : Route) (b : BufferState) (errno : ℕ) → IsNewOr h to.key (host_refused h to (transfer_by to b) errno)
 unfolding host_refused
 refused-held h to b errno t k own = owner-last h.tickets (record { key = to.key; endpoint = to.endpoint; kind = to.kind }) t k own
 
-pub entered-held : (h : HostState) (e : EndpointState) (b : BufferState) (t k : ℕ) → owner_at (entered host_calls h e b).tickets t ≡ Some k → ((t ≡ length h.tickets) × (k ≡ e.key)) ⊎ (owner_at h.tickets t ≡ Some k)
-entered-held h e b =
-    cond_both (is_valid e b) (host_submitted h (route_of e) (transfer_by (route_of e) b)) (host_refused h (route_of e) (transfer_by (route_of e) b) 22) (IsNewOr h e.key)
-    (λ yes_. submitted-held h (route_of e) b) (λ no_. refused-held h (route_of e) b 22)
+pub entered-held : (h : HostState) (e : EndpointState) (deadline : Option ℕ) (b : BufferState) (t k : ℕ) → owner_at (entered host_calls h e deadline b).tickets t ≡ Some k → ((t ≡ length h.tickets) × (k ≡ e.key)) ⊎ (owner_at h.tickets t ≡ Some k)
+entered-held h e deadline b =
+    cond_both (is_valid e b) (host_submitted h (route_of e) deadline (transfer_by (route_of e) b)) (host_refused h (route_of e) (transfer_by (route_of e) b) 22) (IsNewOr h e.key)
+    (λ yes_. submitted-held h (route_of e) deadline b) (λ no_. refused-held h (route_of e) b 22)

@@ -32,3 +32,6 @@ pub mod SettingLemmas
 pub mod ControlLemmas
 pub mod StartFrames
 pub mod StartedLemmas
+pub mod DeviceLemmas
+pub mod HeldDevices
+pub mod LeftDevices

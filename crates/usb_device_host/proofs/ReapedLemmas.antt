@@ -21,7 +21,7 @@ use Rattle.usb_device_ledger.specs.TicketStates.{TicketState}
 use Rattle.usb_device_ledger.specs.TicketStates as slot
 use Rattle.usb_device_ledger.specs.LedgerState.{LedgerState, host_ticket, slot_data}
 use Rattle.usb_device_host.specs.HostBus.{held_as, host_value}
-use Rattle.usb_device_host.specs.HostFacts.{Fits, TicketsAgree, host_made}
+use Rattle.usb_device_host.specs.HostFacts.{TicketsAgree, host_made}
 use Rattle.usb_device_host.proofs.HostCallLemmas.{come-reaped}
 
 -- what is lent of a transfer: itself, once it has its completion

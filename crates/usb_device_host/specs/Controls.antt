@@ -1,16 +1,13 @@
 -- How a control transfer starts at a host (USB 2.0, section 9.3).
-use Rattle.std.specs.Prelude.{ℕ, ◌+◌, ◌-◌, ◌^◌, min, [], ◌∷◌, ◌++◌, length, Some}
+use Rattle.std.specs.Prelude.{ℕ, [], ◌∷◌, ◌++◌, length, Some}
 use Rattle.usb_xfer.specs.declared.transfer.TransferData.{TransferData}
 use Rattle.usb_xfer.specs.Transfers.{setup_held, data_held}
 use Rattle.usb_kernel.specs.declared.submission.Submission.{Submission}
 use Rattle.usb_kernel.specs.Submits.{kernel_submitted}
+use Rattle.usb_kernel.specs.Timers.{deadline_after}
 use Rattle.usb_device_ledger.specs.Entries.{HeldBy, control_endpoint}
 use Rattle.usb_device_ledger.specs.Slots.{slots_with}
 use Rattle.usb_device_host.specs.HostState.{HostState}
-
--- when a time in nanoseconds is up: it is cut to a day, and ends at the greatest 64-bit number
-abbrev pub deadline_after : ℕ → ℕ → ℕ
-deadline_after clock timeout = min (2 ^ 64 - 1) (clock + min timeout 86400000000000)
 
 -- what is handed in of a control transfer
 abbrev pub control_submission : HostState → ℕ → TransferData → ℕ → Submission

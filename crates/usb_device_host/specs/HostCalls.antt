@@ -35,20 +35,22 @@ with_held h to t kernel =
       slot_count = slots_with h.tickets h.slot_count;
     }
 
--- the buffer of a transfer was submitted, refused or not
-abbrev pub submitted_with : HostState → Route → TransferData → Option BufferState → HostState
-submitted_with h to t None = h
-submitted_with h to t (Some b) = with_held h to t (kernel_submitted h.kernel (submission_of to b))
+-- the buffer of a transfer was submitted, with a deadline or none, refused or not
+abbrev pub submitted_with : HostState → Route → Option ℕ → TransferData → Option BufferState →
+    HostState
+submitted_with h to deadline t None = h
+submitted_with h to deadline t (Some b) =
+    with_held h to t (kernel_submitted h.kernel (submission_of to deadline b))
 
--- the transfer t was submitted by a route
-unfoldable pub host_submitted : HostState → Route → TransferData → HostState
-host_submitted h to t = submitted_with h to t (buffer_held t.held)
+-- the transfer t was submitted by a route, with a deadline or none
+unfoldable pub host_submitted : HostState → Route → Option ℕ → TransferData → HostState
+host_submitted h to deadline t = submitted_with h to deadline t (buffer_held t.held)
 
 -- it was refused with an errno, whatever the kernel would have answered
 abbrev pub refused_with : HostState → Route → TransferData → ℕ → Option BufferState → HostState
 refused_with h to t errno None = h
 refused_with h to t errno (Some b) =
-    with_held h to t (kernel_refused h.kernel (submission_of to b) errno)
+    with_held h to t (kernel_refused h.kernel (submission_of to None b) errno)
 
 -- the transfer t was refused
 unfoldable pub host_refused : HostState → Route → TransferData → ℕ → HostState

@@ -22,4 +22,7 @@ pub mod HostBusFacts
 pub mod HostLaws
 pub mod HostAwaits
 pub mod HostFrames
+pub mod HandleStates
+pub mod DeviceLaws
+pub mod DeviceHandles
 pub mod Controls

@@ -8,15 +8,16 @@ ghost use Rattle.usb_xfer.specs.Transfers.{IsRequest, setup_held, data_held};
 ghost use Rattle.usb_kernel.specs.Tickets.{tickets};
 ghost use Rattle.usb_device_tables.specs.History.{value_at};
 ghost use Rattle.usb_kernel.specs.TransferCompletions.{transfer_completion};
+ghost use Rattle.usb_kernel.specs.Timers.{deadline_after};
 ghost use Rattle.usb_device_host.specs.HostBus.{owner_at, key_at};
 ghost use Rattle.usb_device_host.specs.HostCalls.{host_left};
 ghost use Rattle.usb_device_host.specs.TicketEnds.{host_taken};
-ghost use Rattle.usb_device_host.specs.Controls.{deadline_after, request_started};
+ghost use Rattle.usb_device_host.specs.Controls.{request_started};
 
 use crate::host::{Host, ticket_from};
 use usb_desc::NoMemory;
 use usb_device_tables::Key;
-use usb_kernel::Submission;
+use usb_kernel::{Submission, deadline_after};
 use usb_xfer::{Completion, Pending, TransferData, take_completed_from_option};
 
 /// What is handed in to the kernel of a control transfer, which holds nothing then.
@@ -72,14 +73,6 @@ impl Host {
         self.ledger.device(interface)
     }
 
-    /// When a time in nanoseconds is up. It is cut to a day, and ends at the greatest number.
-    fn deadline_after(&self, timeout: u64) -> u64
-        ensures deadline { result ≡ deadline_after self.now.kernel.clock timeout }
-    {
-        let day = 86_400_000_000_000;
-        self.kernel.now().saturating_add(timeout.min(day))
-    }
-
     /// Hands a control transfer in to a device. It has a control endpoint of its own, of no
     /// interface, which has the next key and holds its ticket, refused or not. A ticket that is not
     /// refused has the deadline. An `Err` is want of memory, and then nothing has changed.
@@ -101,7 +94,7 @@ impl Host {
         ensures err { OnErr result (self.new ≡ self.old) }
     {
         let mut transfer = request;
-        let deadline = self.deadline_after(timeout);
+        let deadline = deadline_after(self.kernel.now(), timeout);
         self.ledger.reserve()?;
         let key = self.ledger.open_control(transfer.endpoint)?;
         let submission = submission_from(&mut transfer, device, deadline);

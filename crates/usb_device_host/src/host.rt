@@ -20,6 +20,7 @@ ghost use Rattle.usb_device_host.specs.HostState.{HostState, host_of};
 ghost use Rattle.usb_device_ledger.specs.EndedTickets.{end_at};
 ghost use Rattle.usb_device_host.specs.HostBus.{hold_at, owner_at, key_at, host_value};
 ghost use Rattle.usb_device_host.specs.HostBusFacts.{bus_of-taken};
+ghost use Rattle.usb_device_host.specs.DeviceHandles.{DeviceHandlesStand, handles-same, handles-in_turn};
 ghost use Rattle.usb_device_host.specs.HeldTransfers.{host_transfer};
 ghost use Rattle.usb_device_host.specs.HostCalls.{host_submitted, host_refused, host_discarded, host_left, host_timed, host_idled, host_halt_result, host_halt_cleared, host_calls};
 ghost use Rattle.usb_device_host.specs.HostFrames.{HostGoesOn};
@@ -255,15 +256,20 @@ impl Host {
         }
     }
 
-    /// A transfer becomes the next ticket, refused or not, which the endpoint of the route's key
-    /// holds.
-    fn submit_transfer(&mut self, to: Route, t: TransferData) -> Result<u64, TransferData>
+    /// A transfer becomes the next ticket, with a deadline or none, refused or not, which the
+    /// endpoint of the route's key holds.
+    fn submit_transfer(
+        &mut self,
+        to: Route,
+        deadline: Option<u64>,
+        t: TransferData,
+    ) -> Result<u64, TransferData>
         requires key { key_at self.old.endpoints to.key ≡ true }
         requires goes { GoesBy t to }
         requires whole { AsksWhole t to }
         ensures ticket { IfOk result (λ n. n ≡ length (tickets self.old.kernel.past)) }
         ensures count { length self.old.tickets ≡ length (tickets self.old.kernel.past) }
-        ensures ok { OnOk result (self.new ≡ host_submitted self.old to t) }
+        ensures ok { OnOk result (self.new ≡ host_submitted self.old to deadline t) }
         ensures known { OnOk result
             (IfSome (submit_refusal self.old.kernel.devices self.old.kernel.armed to.device)
             IsErrno) }
@@ -275,7 +281,7 @@ impl Host {
             return Err(transfer);
         }
         let buffer = transfer.take_buffer();
-        match self.kernel.submit(to.submission(buffer)) {
+        match self.kernel.submit(to.submission(deadline, buffer)) {
             Ok(submitted) => {
                 let entry = ticket_from(submitted);
                 transfer.held = entry.held;
@@ -311,7 +317,7 @@ impl Host {
             return Err(transfer);
         }
         let buffer = transfer.take_buffer();
-        match self.kernel.refuse(to.submission(buffer), errno) {
+        match self.kernel.refuse(to.submission(None, buffer), errno) {
             Ok(submitted) => {
                 let entry = ticket_from(submitted);
                 transfer.held = entry.held;
@@ -452,12 +458,26 @@ impl Slots<TransferData> for Host {
 impl Bus for Host {
     ghost calls = { host_calls };
 
+    ghost handles_stand = { DeviceHandlesStand };
+
     fn submit(
         &mut self,
         to: Route,
         t: Idle<TransferData>,
     ) -> Result<Pending<TransferData>, Idle<TransferData>> {
-        match self.submit_transfer(to, t.into_inner()) {
+        match self.submit_transfer(to, None, t.into_inner()) {
+            Ok(ticket) => Ok(Pending::new(ticket)),
+            Err(back) => Err(Idle::new(back)),
+        }
+    }
+
+    fn submit_by(
+        &mut self,
+        to: Route,
+        t: Idle<TransferData>,
+        deadline: u64,
+    ) -> Result<Pending<TransferData>, Idle<TransferData>> {
+        match self.submit_transfer(to, Some(deadline), t.into_inner()) {
             Ok(ticket) => Ok(Pending::new(ticket)),
             Err(back) => Err(Idle::new(back)),
         }
@@ -505,6 +525,8 @@ impl Bus for Host {
         self.ask_clear_halt(device, endpoint)
     }
 
+    fn calls_keep_handles() {}
+
     ghost stands_is = { held-owned };
 
     ghost value_is = { value-held };
@@ -512,4 +534,8 @@ impl Bus for Host {
     ghost taken_is = { λ h t. refl };
 
     ghost state_taken = { bus_of-taken };
+
+    ghost handles_same = { handles-same };
+
+    ghost handles_in_turn = { handles-in_turn };
 }

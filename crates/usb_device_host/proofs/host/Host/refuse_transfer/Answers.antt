@@ -1,4 +1,4 @@
-use Rattle.std.proofs.Common.{◌≡◌, ◌++◌, ◌∷◌, [], Some, length, ap, refl, ◌∙◌, arith, Option, ℕ}
+use Rattle.std.proofs.Common.{◌≡◌, ◌++◌, ◌∷◌, [], Some, None, length, ap, refl, ◌∙◌, arith, Option, ℕ}
 use Rattle.usb_xfer.specs.Transfers.{buffer_held}
 use Rattle.usb_xfer.specs.declared.transfer.TransferData.{TransferData}
 use Rattle.usb_kernel.specs.Value.{KernelState}
@@ -18,7 +18,7 @@ invariant_of-self-in-Ok c =
     let k = c.self.inside.kernel in
     let l = c.self.inside.ledger in
     let held = c.ticket_from-entry.result.held in
-    let sub = submission_of c.args.to c.take_buffer-buffer.result in
+    let sub = submission_of c.args.to None c.take_buffer-buffer.result in
     let transfer : TransferData = record c.args.t { held = held } in
     let refusal : Option ℕ = Some c.args.errno in
     let ledger : c.hold.new.self ≡ record l { slots = l.slots ++ slot.HeldBy c.args.to.key transfer ∷ []; room = c.hold.new.self.room; slot_count = slots_with (tickets_in l) l.slot_count } =
@@ -36,7 +36,7 @@ returns-in-Ok-clause-ok c =
     let k = c.self.inside.kernel in
     let l = c.self.inside.ledger in
     let held = c.ticket_from-entry.result.held in
-    let sub = submission_of c.args.to c.take_buffer-buffer.result in
+    let sub = submission_of c.args.to None c.take_buffer-buffer.result in
     let transfer : TransferData = record c.args.t { held = held } in
     let refusal : Option ℕ = Some c.args.errno in
     let ledger : c.hold.new.self ≡ record l { slots = l.slots ++ slot.HeldBy c.args.to.key transfer ∷ []; room = c.hold.new.self.room; slot_count = slots_with (tickets_in l) l.slot_count } =

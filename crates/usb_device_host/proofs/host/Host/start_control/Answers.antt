@@ -5,6 +5,7 @@ use Rattle.usb_kernel.specs.declared.submission.Submission.{Submission}
 use Rattle.usb_kernel.specs.Value.{KernelState}
 use Rattle.usb_kernel.specs.Tickets.{tickets}
 use Rattle.usb_kernel.specs.Submits.{submit_refusal, submit_or_refuse, kernel_submitted, queued_or_refused}
+use Rattle.usb_kernel.specs.Timers.{deadline_after}
 use Rattle.usb_kernel.specs.Holds.{held_at_once}
 use Rattle.usb_device_tables.specs.History.{value_at}
 use Rattle.usb_device_tables.proofs.ValueLemmas.{is-some, value-last, value-of_last}
@@ -18,13 +19,10 @@ use Rattle.usb_device_host.proofs.EnterLemmas.{TicketsAgree-enter}
 use Rattle.usb_device_host.proofs.ControlLemmas.{whole-once, started-made}
 use Rattle.usb_device_host.proofs.host.Host.start_control.Goals as goal
 
-pub submit-requires-clause-whole : goal.submit-requires-clause-whole
-submit-requires-clause-whole c =
+pub submit-requires : goal.submit-requires
+submit-requires c =
     let s = c.submission_from-submission.result in
-    whole-once s (ap (λ (s : Submission). s.maximum) c.submission_from-submission.ensures.submission ∙ ap (λ (s : Submission). s.buffer.requested) (sym c.submission_from-submission.ensures.submission))
-
-pub submit-requires-clause-deadline : goal.submit-requires-clause-deadline
-submit-requires-clause-deadline c = λ some. ap (λ (s : Submission). s.kind) c.submission_from-submission.ensures.submission ∙ c.requires.kind
+    record { whole = whole-once s (ap (λ (s : Submission). s.maximum) c.submission_from-submission.ensures.submission ∙ ap (λ (s : Submission). s.buffer.requested) (sym c.submission_from-submission.ensures.submission)) }
 
 pub hold-requires-clause-there : goal.hold-requires-clause-there
 hold-requires-clause-there c =
@@ -94,6 +92,6 @@ returns-in-Ok-clause-ok c =
     c.submit.ensures.rest ∙ (ap (λ p. record k { past = p; armed = c.submit.new.self.armed }) c.in-Ok.ensures.past ∙ ap (λ a. record k { past = (kernel_submitted k sub).past; armed = a }) c.in-Ok.ensures.armed) in
     let made : c.hold.new.self ≡ record l { endpoints = l.endpoints ++ Some (control_endpoint sub.endpoint) ∷ []; slots = l.slots ++ slot.HeldBy (length l.endpoints) (record { endpoint = sub.endpoint; kind = sub.kind; held = held }) ∷ []; room = room; slot_count = count } = rw (endpoint, kind, sym key) ledger in
     let submission : sub ≡ control_submission now c.args.device c.args.request c.args.timeout =
-    c.submission_from-submission.ensures.submission ∙ ap (λ d. record (control_submission now c.args.device c.args.request c.args.timeout) { deadline = Some d }) c.deadline_after-deadline.ensures.deadline in
+    c.submission_from-submission.ensures.submission ∙ ap (λ d. record (control_submission now c.args.device c.args.request c.args.timeout) { deadline = Some d }) (c.deadline_after-deadline.ensures.deadline ∙ (ap (λ clock. deadline_after clock c.args.timeout) c.now.ensures.clock ∙ ap (λ (h : HostState). deadline_after h.kernel.clock c.args.timeout) c.self.view_is)) in
     started-made k c.submit.new.self c.self.inside.devices l c.hold.new.self c.self.inside.steps.items sub held room kernel made
     ∙ (ap (λ (h : HostState). host_started h sub) c.self.view_is ∙ ap (host_started now) submission)

@@ -18,7 +18,7 @@ invariant_of-self-in-Ok c =
     let k = c.self.inside.kernel in
     let l = c.self.inside.ledger in
     let held = c.ticket_from-entry.result.held in
-    let sub = submission_of c.args.to c.take_buffer-buffer.result in
+    let sub = submission_of c.args.to c.args.deadline c.take_buffer-buffer.result in
     let transfer : TransferData = record c.args.t { held = held } in
     let refusal : Option ℕ = submit_refusal k.devices k.armed c.args.to.device in
     let ledger : c.hold.new.self ≡ record l { slots = l.slots ++ slot.HeldBy c.args.to.key transfer ∷ []; room = c.hold.new.self.room; slot_count = slots_with (tickets_in l) l.slot_count } =
@@ -36,7 +36,7 @@ returns-in-Ok-clause-ok c =
     let k = c.self.inside.kernel in
     let l = c.self.inside.ledger in
     let held = c.ticket_from-entry.result.held in
-    let sub = submission_of c.args.to c.take_buffer-buffer.result in
+    let sub = submission_of c.args.to c.args.deadline c.take_buffer-buffer.result in
     let transfer : TransferData = record c.args.t { held = held } in
     let refusal : Option ℕ = submit_refusal k.devices k.armed c.args.to.device in
     let ledger : c.hold.new.self ≡ record l { slots = l.slots ++ slot.HeldBy c.args.to.key transfer ∷ []; room = c.hold.new.self.room; slot_count = slots_with (tickets_in l) l.slot_count } =
@@ -45,5 +45,5 @@ returns-in-Ok-clause-ok c =
     let armed = c.in-Ok.ensures.armed ∙ ap (λ s. armed_after_submit k.devices k.armed s) c.submission.ensures.submission in
     let kernel : c.submit.new.self ≡ record k { past = after_submit k.devices k.armed k.past sub; armed = armed_after_submit k.devices k.armed sub } =
     c.submit.ensures.rest ∙ ap (λ p. record k { past = p; armed = c.submit.new.self.armed }) past ∙ ap (λ a. record k { past = after_submit k.devices k.armed k.past sub; armed = a }) armed in
-    submitted-made k c.submit.new.self c.self.inside.devices l c.hold.new.self c.self.inside.steps.items c.args.to c.args.t c.take_buffer-buffer.result held c.hold.new.self.room (ap buffer_held c.take_buffer-buffer.ensures.value) kernel ledger
-    ∙ ap (λ h. host_submitted h c.args.to c.args.t) c.self.view_is
+    submitted-made k c.submit.new.self c.self.inside.devices l c.hold.new.self c.self.inside.steps.items c.args.to c.args.deadline c.args.t c.take_buffer-buffer.result held c.hold.new.self.room (ap buffer_held c.take_buffer-buffer.ensures.value) kernel ledger
+    ∙ ap (λ h. host_submitted h c.args.to c.args.deadline c.args.t) c.self.view_is
