@@ -9,10 +9,10 @@ use Rattle.usb_device_ledger.specs.Owners.{is_ticket_of, lives, lives_on, if_the
 use Rattle.usb_device_ledger.specs.Devices.{is_held}
 use Rattle.usb_device_host.specs.HostState.{HostState}
 use Rattle.usb_device_host.specs.Finishes.{HasEnds}
-use Rattle.usb_device.specs.DeviceLaws.{holds_at, DevicesAreHeld}
+use Rattle.usb_device_host.specs.DeviceLaws.{holds_at, DevicesAreHeld}
 use Rattle.usb_device.specs.OwnerLaws.{InterfacesAreOwned, EndpointsLive}
 use Rattle.usb_device.specs.ClosedLaws.{IsClosed, ClosedKeepsNothing}
-use Rattle.usb_device.proofs.HeldDevices.{count-none}
+use Rattle.usb_device_host.proofs.HeldDevices.{count-none}
 
 -- a ticket with an end is of no endpoint
 none-of : (ts : List HostTicket) (k : ℕ) → HasEnds ts → list_any (is_ticket_of k) ts ≡ false

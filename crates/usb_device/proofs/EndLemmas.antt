@@ -124,13 +124,13 @@ unfolding host_started
 started-ends h s = ends-push h.tickets (HeldBy (record { key = length h.endpoints; endpoint = s.endpoint; kind = s.kind }))
 
 -- calls of endpoints
-submitted-by : (h : HostState) (to : Route) (t : TransferData) (o : Option BufferState) → KeepsEnds h (submitted_with h to t o)
-submitted-by h to t None = same h
-submitted-by h to t (Some b) = ends-push h.tickets (HeldBy (record { key = to.key; endpoint = t.endpoint; kind = t.kind }))
+submitted-by : (h : HostState) (to : Route) (deadline : Option ℕ) (t : TransferData) (o : Option BufferState) → KeepsEnds h (submitted_with h to deadline t o)
+submitted-by h to deadline t None = same h
+submitted-by h to deadline t (Some b) = ends-push h.tickets (HeldBy (record { key = to.key; endpoint = t.endpoint; kind = t.kind }))
 
-submitted-ends : (h : HostState) (to : Route) (t : TransferData) → KeepsEnds h (host_submitted h to t)
+submitted-ends : (h : HostState) (to : Route) (deadline : Option ℕ) (t : TransferData) → KeepsEnds h (host_submitted h to deadline t)
 unfolding host_submitted
-submitted-ends h to t = submitted-by h to t (buffer_held t.held)
+submitted-ends h to deadline t = submitted-by h to deadline t (buffer_held t.held)
 
 refused-by : (h : HostState) (to : Route) (t : TransferData) (errno : ℕ) (o : Option BufferState) → KeepsEnds h (refused_with h to t errno o)
 refused-by h to t errno None = same h

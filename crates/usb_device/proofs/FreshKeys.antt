@@ -6,7 +6,7 @@ use Rattle.usb_device_endpoint.specs.Handles.{Stands}
 use Rattle.usb_device_ledger.specs.Entries.{HostEndpoint}
 use Rattle.usb_device_host.specs.HostState.{HostState}
 use Rattle.usb_device_host.specs.HostBus.{key_at, bus_of}
-use Rattle.usb_device.specs.HandleStates.{InterfaceState, StandsInterface}
+use Rattle.usb_device_host.specs.HandleStates.{InterfaceState, StandsInterface}
 
 -- a handle that stands has a key below the next one
 pub stands-within : (h : HostState) (f : InterfaceState) → StandsInterface h f → f.key < length h.interfaces

@@ -22,20 +22,19 @@ use Rattle.usb_device_host.specs.HostBus.{bus_of, owner_at, key_at}
 use Rattle.usb_device_host.specs.HostCalls.{host_left, host_calls}
 use Rattle.usb_device_host.specs.HostFrames.{ClaimsGoOn, HostGoesOn}
 use Rattle.usb_device_host.specs.HostAwaits.{deadline_of}
-use Rattle.usb_device.specs.HandleStates.{InterfaceState, StandsDevice, StandsInterface}
+use Rattle.usb_device_host.specs.HandleStates.{InterfaceState, StandsDevice, StandsInterface}
 use Rattle.usb_device_host.specs.TicketEnds.{host_taken, host_abandoned}
-use Rattle.usb_device_host.specs.Controls.{control_submission, host_started, request_started, deadline_after}
+use Rattle.usb_device_host.specs.Controls.{control_submission, host_started, request_started}
+use Rattle.usb_kernel.specs.Timers.{deadline_after}
 use Rattle.usb_device.specs.Futures.{FutureState, IsOnItsWay, StandsFuture, fresh_future, future_taken, taken_by, future_closed, closed_by, future_awaited, awaited_by}
 use Rattle.usb_device.specs.ControlCalls.{request_awaited, controlled}
 use Rattle.usb_device_host.proofs.ClaimFrames.{goes-refl, goes-same, goes-trans}
 use Rattle.usb_device_host.proofs.HostKeeps.{KeepsLine}
 use Rattle.usb_device_host.proofs.CallFrames.{bus-taken, bus-abandoned, bus-left, keeps-taken, keeps-abandoned, line-left, interfaces-left}
-use Rattle.usb_device_ledger.proofs.DeviceLemmas.{there-same, opened-same}
-use Rattle.usb_device.proofs.DeviceLemmas.{kept-stands}
-use Rattle.usb_device.proofs.StandLemmas.{StandsInterface-same}
 use Rattle.usb_device.proofs.FreshKeys.{key-within}
 use Rattle.usb_device_host.proofs.WaitFrames.{went-nowhere, went-awaited}
 use Rattle.usb_device_host.proofs.ControlLemmas.{started-key, started-held, started-due, started-line, started-interfaces, started-past, started-others}
+use Rattle.usb_device_host.proofs.LeftDevices.{device-stays, interface-stays}
 
 -- what a call of a future leaves as it was: the line, the open devices, the claimed interfaces with
 -- an open handle, and the journal, which goes on
@@ -43,12 +42,6 @@ pub record HandlesStay (old new : HostState) : Type 0 where
   pub line : KeepsLine old new
   pub interfaces : ClaimsGoOn old.interfaces new.interfaces
   pub past : Extends old.kernel.past new.kernel.past
-
-pub device-stays : (h g : HostState) (key : ℕ) → g.devices ≡ h.devices → StandsDevice h key → StandsDevice g key
-device-stays h g key same stands = kept-stands h g key (opened-same h.devices g.devices same) stands
-
-pub interface-stays : (h g : HostState) (i : InterfaceState) → ClaimsGoOn h.interfaces g.interfaces → g.devices ≡ h.devices → StandsInterface h i → StandsInterface g i
-interface-stays h g i goes same stands = StandsInterface-same h g i goes (there-same h.devices g.devices same) stands
 
 -- a start
 pub stays-started : (h : HostState) (device : ℕ) (request : TransferData) (timeout : ℕ) → HandlesStay h (request_started h device request timeout)

@@ -1,32 +1,26 @@
 -- The open devices of a host over all calls.
-use Rattle.std.proofs.Common.{ℕ, zero, suc, ◌≡◌, arith, Bool, cond, List, length, slice_get, Option, Some, None, refl, ap, sym, ◌∙◌, Result, Ok, Err, inl, inr}
-use Rattle.std.specs.Prelude.{is_some, nat_lt}
+use Rattle.std.proofs.Common.{ℕ, zero, suc, ◌≡◌, arith, Bool, cond, List, length, Option, Some, None, refl, ap, sym, ◌∙◌, Result, Ok, Err, inl, inr}
+use Rattle.std.specs.Prelude.{nat_lt}
 use Rattle.std.proofs.lemmas.Bool.{cond_both, cases_eq}
-use Rattle.usb_kernel_devices.specs.declared.step.KernelStep.{KernelStep}
-use Rattle.usb_kernel.specs.declared.submission.Done.{Done}
-use Rattle.usb_kernel.specs.Completions.{completion, reapable}
-use Rattle.usb_kernel.specs.Steps.{after_step, step_done, after_reap}
 use Rattle.usb_kernel.specs.Tickets.{tickets}
 use Rattle.usb_error.specs.ErrorState.{ErrorState}
 use Rattle.usb_device_endpoint.specs.Waits.{waited}
 use Rattle.usb_device_endpoint.specs.Blocking.{blocked}
 use Rattle.usb_device_tables.specs.History.{value_at}
 use Rattle.usb_device_tables.proofs.ValueLemmas.{value-push}
-use Rattle.usb_device_ledger.specs.Entries.{ClaimedInterface, HostTicket, HeldBy, Abandoned, Ended}
-use Rattle.usb_device_ledger.specs.declared.ends.TicketEnd.{TicketEnd}
-use Rattle.usb_device_ledger.specs.declared.ends.TicketEnd.TheVariants.{Taken, Dropped}
+use Rattle.usb_device_ledger.specs.Entries.{ClaimedInterface}
 use Rattle.usb_device_ledger.specs.declared.opened.OpenDevice.{OpenDevice}
 use Rattle.usb_device_ledger.specs.Devices.{device_changed, handle_more, handle_less}
 use Rattle.usb_device_ledger.specs.Owners.{has_living}
 use Rattle.usb_device_host.specs.HostState.{HostState}
-use Rattle.usb_device_host.specs.HostFrames.{ClaimsGoOn, LineGoesOn, HostGoesOn}
-use Rattle.usb_device_host.specs.TicketEnds.{ended_as, host_ended, host_taken, given_up, host_abandoned, came}
-use Rattle.usb_device_host.specs.HostTurns.{with_past, host_stepped, host_reaped, host_turned, host_rest}
+use Rattle.usb_device_host.specs.HostFrames.{ClaimsGoOn, HostGoesOn}
+use Rattle.usb_device_host.specs.TicketEnds.{host_ended, host_taken, host_abandoned}
+use Rattle.usb_device_host.specs.HostTurns.{host_stepped, host_reaped, host_turned, host_rest}
 use Rattle.usb_device_host.specs.HostCalls.{host_submitted, host_refused, host_discarded, host_left, host_timed, host_idled, host_calls}
 use Rattle.usb_device_host.specs.HostAwaits.{host_awaited}
 use Rattle.usb_device_host.specs.Controls.{host_started}
 use Rattle.usb_device_host.specs.Finishes.{discarded_below, reaped_below, finished}
-use Rattle.usb_device.specs.HandleStates.{InterfaceState, StandsDevice, StandsInterface}
+use Rattle.usb_device_host.specs.HandleStates.{InterfaceState, StandsDevice, StandsInterface}
 use Rattle.usb_device_host.specs.Handles.{device_cloned, device_closed, handle_added, handle_cloned, handle_closed}
 use Rattle.usb_device_host.specs.Opens.{open_tried, opened_by, host_opened}
 use Rattle.usb_device_host.specs.InterfaceClaims.{host_claimed}
@@ -34,29 +28,14 @@ use Rattle.usb_device_host.specs.EndpointOpens.{host_asked}
 use Rattle.usb_device_host.specs.OnDevices.{host_detached, detached_on, host_attached, attached_on, host_configured, configured_on, configured_unless, set_configuration_errno, host_speed_asked, speed_asked_on, host_reset, reset_on}
 use Rattle.usb_device_host.specs.OnInterfaces.{alt_setting_errno, setting_unless, alt_setting_asked, alt_setting_on, alt_setting_set}
 use Rattle.usb_device.specs.HeldLaws.{KeepsDevices, KeepsOtherDevices, KeepsHeld, DevicesStayHeld}
-use Rattle.usb_device_host.proofs.HostFrames.{ended_as-is, ended_as-goes, came-is, came-goes}
-use Rattle.usb_device_host.proofs.ClaimFrames.{goes-same, goes-refl, goes-trans}
-use Rattle.usb_device_host.proofs.CallFrames.{keeps-submitted, keeps-refused, line-left, interfaces-left}
+use Rattle.usb_device_host.proofs.ClaimFrames.{goes-same, goes-refl}
+use Rattle.usb_device_host.proofs.CallFrames.{keeps-submitted, keeps-refused}
 use Rattle.usb_device_host.proofs.WaitFrames.{went-rest, went-turned, went-waited, went-blocked, went-awaited}
-use Rattle.usb_device_host.proofs.HostKeeps.{KeepsOpen}
 use Rattle.usb_device_host.proofs.ControlLemmas.{started-line, started-interfaces}
 use Rattle.usb_device_host.proofs.InterfaceFrames.{asked-is, asked-counts}
 use Rattle.usb_device_ledger.proofs.DeviceLemmas.{KeepsCounts, KeepsOpened, counts_of, counts-same, counts-set, counted-new, changed-at, changed-other, held-handle_more}
-use Rattle.usb_device.proofs.HeldDevices.{held-goes, held-written, held-start, held-opened, held-device_cloned, held-device_closed, held-claimed, held-handle_cloned, held-handle_closed, opened-claimed, opened-handle_closed}
-
--- what a host does by itself, and most calls: no open device changes, and claimed interfaces go on
-pub record LeavesDevices (old new : HostState) : Type 0 where
-  pub devices : new.devices ≡ old.devices
-  pub interfaces : ClaimsGoOn old.interfaces new.interfaces
-
-pub leaves-refl : (h : HostState) → LeavesDevices h h
-leaves-refl h = record { devices = refl; interfaces = goes-refl h.interfaces }
-
-pub leaves-trans : (a b c : HostState) → LeavesDevices a b → LeavesDevices b c → LeavesDevices a c
-leaves-trans a b c first second = record { devices = second.devices ∙ first.devices; interfaces = goes-trans a.interfaces b.interfaces c.interfaces first.interfaces second.interfaces }
-
-pub leaves-open : (old new : HostState) → KeepsOpen old new → LeavesDevices old new
-leaves-open old new keeps = record { devices = keeps.line.devices; interfaces = keeps.interfaces }
+use Rattle.usb_device_host.proofs.HeldDevices.{held-goes, held-written, held-start, held-opened, held-device_cloned, held-device_closed, held-claimed, held-handle_cloned, held-handle_closed, opened-claimed, opened-handle_closed}
+use Rattle.usb_device_host.proofs.LeftDevices.{LeavesDevices, leaves-refl, leaves-trans, leaves-open, stepped-leaves, reaped-leaves, discarded-leaves, taken-leaves, abandoned-leaves, left-leaves, timed-leaves, idled-leaves, line-leaves, ended-leaves}
 
 -- devices stay that keep their counts
 kept-counts : (old new : List (Option OpenDevice)) → KeepsCounts old new → KeepsDevices old new
@@ -73,58 +52,6 @@ leaves-held old new leaves = counts-held old new (counts-same old.devices new.de
 
 same-held : (old new : HostState) → new.devices ≡ old.devices → new.interfaces ≡ old.interfaces → KeepsHeld old new
 same-held old new devices interfaces = leaves-held old new (record { devices = devices; interfaces = goes-same old.interfaces new.interfaces interfaces })
-
--- steps, reaps and ends of tickets
-came-leaves : (h : HostState) (o : Option Done) → LeavesDevices h (came h o)
-came-leaves h o = record { devices = ap (λ (g : HostState). g.devices) (came-is h o); interfaces = (came-goes h o).interfaces }
-
-stepped-leaves : (h : HostState) (s : KernelStep) → LeavesDevices h (host_stepped h s)
-unfolding host_stepped
-stepped-leaves h s = let came_ = came-leaves (record h { kernel = after_step h.kernel s }) (step_done h.kernel.past s) in record { devices = came_.devices; interfaces = came_.interfaces }
-
-reaped-leaves : (h : HostState) (t : ℕ) → LeavesDevices h (host_reaped h t)
-unfolding host_reaped
-reaped-leaves h t = let came_ = came-leaves (with_past h (after_reap h.kernel.past t)) (reapable h.kernel.past t) in record { devices = came_.devices; interfaces = came_.interfaces }
-
-pub discarded-leaves : (h : HostState) (t : ℕ) → LeavesDevices h (host_discarded h t)
-unfolding host_discarded
-discarded-leaves h t = record { devices = refl; interfaces = goes-refl h.interfaces }
-
-ended_as-leaves : (h : HostState) (t : ℕ) (end : TicketEnd) (o : Option HostTicket) → LeavesDevices h (ended_as h t end o)
-ended_as-leaves h t end o = record { devices = ap (λ (g : HostState). g.devices) (ended_as-is h t end o); interfaces = (ended_as-goes h t end o).interfaces }
-
-ended-leaves : (h : HostState) (t : ℕ) (end : TicketEnd) → LeavesDevices h (host_ended h t end)
-unfolding host_ended
-ended-leaves h t end = ended_as-leaves h t end (slice_get h.tickets t)
-
-pub taken-leaves : (h : HostState) (t : ℕ) → LeavesDevices h (host_taken h t)
-unfolding host_taken
-taken-leaves h t = ended-leaves h t Taken
-
-given_up-leaves : (h : HostState) (t : ℕ) (o : Option HostTicket) → LeavesDevices h (given_up h t o)
-given_up-leaves h t None = leaves-refl h
-given_up-leaves h t (Some (HeldBy hold)) = record { devices = refl; interfaces = goes-refl h.interfaces }
-given_up-leaves h t (Some (Abandoned key)) = leaves-refl h
-given_up-leaves h t (Some (Ended end)) = leaves-refl h
-
-pub abandoned-leaves : (h : HostState) (t : ℕ) → LeavesDevices h (host_abandoned h t)
-unfolding host_abandoned
-abandoned-leaves h t =
-    let given = given_up h t (slice_get h.tickets t) in
-    cond_both (is_some (completion h.kernel.past t)) (host_ended h t Dropped) given (LeavesDevices h) (λ yes_. ended-leaves h t Dropped) (λ no_. given_up-leaves h t (slice_get h.tickets t))
-
-pub left-leaves : (h : HostState) (key : ℕ) → LeavesDevices h (host_left h key)
-left-leaves h key = record { devices = (line-left h key).devices; interfaces = interfaces-left h key }
-
-timed-leaves : (h : HostState) → LeavesDevices h (host_timed h)
-timed-leaves h = record { devices = refl; interfaces = goes-refl h.interfaces }
-
-idled-leaves : (h : HostState) (until : ℕ) → LeavesDevices h (host_idled h until)
-idled-leaves h until = record { devices = refl; interfaces = goes-refl h.interfaces }
-
--- turns and waits
-pub line-leaves : (old new : HostState) → LineGoesOn old new → LeavesDevices old new
-line-leaves old new line = record { devices = line.devices; interfaces = line.interfaces }
 
 went-held : (old new : HostState) → HostGoesOn old new → KeepsHeld old new
 went-held old new went = leaves-held old new (line-leaves old new went.line)
@@ -276,7 +203,7 @@ devices_stay_held =
       wait = λ h t timeout. went-held h (waited host_calls t timeout h) (went-waited h t timeout);
       block = λ h t timeout. went-held h (blocked host_calls t timeout h) (went-blocked h t timeout);
       await_ticket = λ h t deadline. went-held h (host_awaited h t deadline) (went-awaited h t deadline);
-      submit = λ h to t. leaves-held h (host_submitted h to t) (leaves-open h (host_submitted h to t) (keeps-submitted h to t));
+      submit = λ h to deadline t. leaves-held h (host_submitted h to deadline t) (leaves-open h (host_submitted h to deadline t) (keeps-submitted h to deadline t));
       refuse = λ h to t errno. leaves-held h (host_refused h to t errno) (leaves-open h (host_refused h to t errno) (keeps-refused h to t errno));
       start_control = λ h s. same-held h (host_started h s) (started-line h s).devices (started-interfaces h s);
       discard = λ h t. leaves-held h (host_discarded h t) (discarded-leaves h t);

@@ -20,7 +20,7 @@ use Rattle.usb_device_host.specs.InterfaceClaims.{claimed_key, claim_tried, host
 use Rattle.usb_device_host.proofs.OpeningLemmas.{claimed-at}
 use Rattle.usb_device_host.proofs.InterfaceFrames.{bus-handle_closed}
 use Rattle.usb_device.specs.HandleCalls.{ClaimsInterface}
-use Rattle.usb_device.specs.HandleStates.{InterfaceState, StandsInterface}
+use Rattle.usb_device_host.specs.HandleStates.{InterfaceState, StandsInterface}
 
 -- an interface is claimed, and then the handle of its device closed: the interface stands
 claim_then : (h new : HostState) (key number : ℕ) (reattach : Bool) (o : OpenDevice) (f : InterfaceState) (next : ℕ) → value_at h.devices key ≡ Some o → claimed_key next (claim_tried h o number reattach) ≡ Ok f.key → new ≡ host_claimed h key number reattach → StandsInterface new f → StandsInterface (device_closed new key) f

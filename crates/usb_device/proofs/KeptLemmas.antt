@@ -37,15 +37,16 @@ use Rattle.usb_device_host.specs.Controls.{request_started}
 use Rattle.usb_device_host.proofs.ClaimFrames.{goes-same, goes-ended}
 use Rattle.usb_device_host.proofs.EndpointLemmas.{key-kept}
 use Rattle.usb_device_host.proofs.InterfaceFrames.{bus-handle_closed, bus-claimed, claimed_on-stays, claimed-there, asked-is, asked-counts, opened-is, opened-there}
-use Rattle.usb_device.specs.DeviceLaws.{DevicesAreHeld}
+use Rattle.usb_device_host.specs.DeviceLaws.{DevicesAreHeld}
 use Rattle.usb_device.specs.HeldLaws.{KeepsDevices, KeepsHeld}
-use Rattle.usb_device.specs.HandleStates.{InterfaceState, StandsDevice, StandsInterface}
+use Rattle.usb_device_host.specs.HandleStates.{InterfaceState, StandsDevice, StandsInterface}
 use Rattle.usb_device.specs.Futures.{FutureState, StandsFuture, future_taken, future_closed, future_awaited}
 use Rattle.usb_device.specs.KeptHandles.{HandlesStand, StandBesideDevice, StandBesideInterface, StandBesideKey}
 use Rattle.usb_device.proofs.FreshKeys.{endpoint-within}
-use Rattle.usb_device.proofs.FutureFrames.{HandlesStay, device-stays, interface-stays, stays-started, others-started, device-started, interface-started, future-started, went-future, others-none, stays-taken, others-taken, stays-closed, others-closed, future-stays, future-went, future-same, future-within}
-use Rattle.usb_device.proofs.HeldDevices.{held-goes}
+use Rattle.usb_device.proofs.FutureFrames.{HandlesStay, stays-started, others-started, device-started, interface-started, future-started, went-future, others-none, stays-taken, others-taken, stays-closed, others-closed, future-stays, future-went, future-same, future-within}
+use Rattle.usb_device_host.proofs.HeldDevices.{held-goes}
 use Rattle.usb_device.proofs.HeldLaw.{devices_stay_held}
+use Rattle.usb_device_host.proofs.LeftDevices.{device-stays, interface-stays}
 
 -- an interface with an open handle keeps one, with its number and its device
 record KeepsClaim (new : List (Option ClaimedInterface)) (i : ℕ) (c : ClaimedInterface) : Type 0 where

@@ -1,4 +1,3 @@
-pub mod DeviceLemmas
 pub mod StandLemmas
 pub mod IntoLemmas
 pub mod FreshKeys
@@ -16,8 +15,8 @@ pub mod OwnerLawCalls
 pub mod OwnerLawWaits
 pub mod OwnerLawClaims
 pub mod OwnerLaw
-pub mod HeldDevices
 pub mod HeldLaw
 pub mod KeptLemmas
 pub mod ForDrivers
+pub mod InterfaceAnswers
 pub mod ClosedLaw

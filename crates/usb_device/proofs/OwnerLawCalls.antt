@@ -31,7 +31,7 @@ use Rattle.usb_device.specs.OwnerLaws.{KeepsOwned, KeepsClaimed, KeepsClaims, Ke
 use Rattle.usb_device_host.proofs.ClaimFrames.{handles-own, goes-ended}
 use Rattle.usb_device_host.specs.Releases.{owner_gone}
 use Rattle.usb_device_host.specs.HostCalls.{with_held, submitted_with, host_submitted, refused_with, host_refused, closed_if, host_left, host_timed, host_idled, host_halt_cleared}
-use Rattle.usb_device.specs.HandleStates.{InterfaceState, StandsInterface}
+use Rattle.usb_device_host.specs.HandleStates.{InterfaceState, StandsInterface}
 use Rattle.usb_device_host.specs.Handles.{device_cloned, device_closed, handle_added, handle_cloned, handle_gone, handle_closed}
 use Rattle.usb_device_host.specs.Opens.{open_tried, host_opened}
 use Rattle.usb_device_host.specs.EndpointOpens.{asked_on, host_asked, with_endpoint}
@@ -65,17 +65,17 @@ module _ (h : HostState) (to : Route) (t : TransferData) (is_open : key_at h.end
   held-owned : (k : KernelState) → ((d n : ℕ) → is_claimed k.devices d n ≡ is_claimed h.kernel.devices d n) → KeepsClaims h (with_held h to t k)
   held-owned k claims = claims-kept h (with_held h to t k) (claimed-refl h.interfaces) claims (claim-tickets h (h.tickets ++ held ∷ []) lives-held) (λ live m e here. let z : 0 + m ≡ m = omega arith in (rw z at (lives-held m e here)) ∙ live m e here)
 
-  submitted-by : (o : Option BufferState) → KeepsClaims h (submitted_with h to t o)
-  submitted-by None = stays h
-  submitted-by (Some b) = held-owned (kernel_submitted h.kernel (submission_of to b)) (λ d n. refl)
+  submitted-by : (deadline : Option ℕ) (o : Option BufferState) → KeepsClaims h (submitted_with h to deadline t o)
+  submitted-by deadline None = stays h
+  submitted-by deadline (Some b) = held-owned (kernel_submitted h.kernel (submission_of to deadline b)) (λ d n. refl)
 
-  pub submitted-owned : KeepsClaims h (host_submitted h to t)
+  pub submitted-owned : (deadline : Option ℕ) → KeepsClaims h (host_submitted h to deadline t)
   unfolding host_submitted
-  submitted-owned = submitted-by (buffer_held t.held)
+  submitted-owned deadline = submitted-by deadline (buffer_held t.held)
 
   refused-by : (errno : ℕ) (o : Option BufferState) → KeepsClaims h (refused_with h to t errno o)
   refused-by errno None = stays h
-  refused-by errno (Some b) = held-owned (kernel_refused h.kernel (submission_of to b) errno) (λ d n. refl)
+  refused-by errno (Some b) = held-owned (kernel_refused h.kernel (submission_of to None b) errno) (λ d n. refl)
 
   pub refused-owned : (errno : ℕ) → KeepsClaims h (host_refused h to t errno)
   unfolding host_refused

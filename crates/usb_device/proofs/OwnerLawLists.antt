@@ -4,13 +4,6 @@ use Rattle.std.specs.Prelude.{◌||◌}
 use Rattle.std.specs.List.{list_any, enumerate_from}
 use Rattle.std.proofs.lemmas.Bool.{cases_Bool}
 use Rattle.std.proofs.lemmas.Option.{none-some, same_Some}
-use Rattle.usb_device_tables.specs.History.{value_at}
-
--- an entry, and what is there
-pub entry-at : {X : Type 0} (xs : List (Option X)) (i : ℕ) (x : X) → value_at xs i ≡ Some x → slice_get xs i ≡ Some (Some x)
-entry-at [] i x at = absurd (none-some x at)
-entry-at (y ∷ ys) zero x at = ap (λ o. Some o) at
-entry-at (y ∷ ys) (suc i) x at = entry-at ys i x at
 
 -- an element that passes, and its place
 pub record FoundAt {X : Type 0} (p : ℕ × X → Bool) (m : ℕ) (xs : List X) : Type 0 where

@@ -7,7 +7,8 @@ use Rattle.usb_kernel.specs.ClaimLaws.{is_claimed}
 use Rattle.usb_device_ledger.specs.Entries.{ClaimedInterface}
 use Rattle.usb_device_host.specs.HostState.{HostState}
 use Rattle.usb_device.specs.OwnerLaws.{is_owned_claim, has_owner, ClaimsAreOwned}
-use Rattle.usb_device.proofs.OwnerLawLists.{any-found, any-at, entry-at}
+use Rattle.usb_device.proofs.OwnerLawLists.{any-found, any-at}
+use Rattle.usb_device_host.proofs.HeldDevices.{entry-at}
 
 -- whether the claimed interface of a key is interface n of device d and has an owner
 abbrev pub owns : HostState → ℕ → ℕ → ℕ → Bool

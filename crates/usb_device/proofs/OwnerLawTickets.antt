@@ -14,10 +14,11 @@ use Rattle.usb_device_ledger.specs.Owners.{is_ticket_of, if_there, lives, is_of,
 use Rattle.usb_device_ledger.specs.Releases.{claim_ended, interface_at, claim_of, without_claim, endpoints_left}
 use Rattle.usb_device_host.specs.Releases.{with_ended, endpoint_left, settled}
 use Rattle.usb_device.specs.OwnerLaws.{KeepsOwned, KeepsClaimed, KeepsClaims, EndpointsLive}
-use Rattle.usb_device.proofs.OwnerLawLists.{entry-at, any-alike, any-at, any-one, any-put, any-set, any-taken, or_true}
+use Rattle.usb_device.proofs.OwnerLawLists.{any-alike, any-at, any-one, any-put, any-set, any-taken, or_true}
 use Rattle.usb_device.proofs.OwnerLawKept.{claim_at, at-none, owned-kept, claims-kept, claimed-refl, claimed-goes, claimed-trans}
 use Rattle.usb_device_host.proofs.ClaimFrames.{goes-ended}
 use Rattle.usb_device.proofs.OwnerLawLosses.{OwnerLeft, owned-settled}
+use Rattle.usb_device_host.proofs.HeldDevices.{entry-at}
 
 -- a host with other tickets and endpoints
 abbrev pub with_lists : HostState → List HostTicket → List (Option HostEndpoint) → HostState

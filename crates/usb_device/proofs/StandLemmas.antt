@@ -6,12 +6,11 @@ use Rattle.usb_device_ledger.specs.Entries.{ClaimedInterface, fresh_interface}
 use Rattle.usb_device_host.specs.HostState.{HostState}
 use Rattle.usb_device_host.specs.InterfaceClaims.{claim_tried, kernel_claimed, claimed_by, claimed_on, host_claimed, claimed_key}
 use Rattle.usb_device_host.specs.EndpointOpens.{host_asked, with_endpoint}
-use Rattle.usb_device.specs.HandleStates.{InterfaceState, StandsInterface, StandsDevice}
+use Rattle.usb_device_host.specs.HandleStates.{InterfaceState, StandsInterface, StandsDevice}
 use Rattle.usb_error.specs.ErrorState.{ErrorState}
 use Rattle.usb_device_host.specs.Opens.{open_tried, opened_by, host_opened, open_key, with_key}
 use Rattle.usb_device_ledger.specs.Devices.{device_changed, interface_more}
-use Rattle.usb_device_ledger.proofs.DeviceLemmas.{KeepsThere, held-interface_more, counts-there, changed-at, changed-other}
-use Rattle.usb_device_host.specs.HostFrames.{ClaimsGoOn}
+use Rattle.usb_device_ledger.proofs.DeviceLemmas.{held-interface_more, counts-there, changed-at, changed-other}
 use Rattle.std.specs.Prelude.{IsSome}
 use Rattle.usb_device_host.proofs.InterfaceFrames.{asked-is, asked-counts, claimed-there, claimed_on-stays, claimed_on-there}
 use Rattle.usb_desc.specs.declared.error.Fail.{Fail}
@@ -21,17 +20,6 @@ use Rattle.usb_device_host.specs.CallErrors.{Leaves}
 use Rattle.usb_device_host.proofs.Left.{left}
 use Rattle.usb_device_host.proofs.TryLemmas.{open-counts}
 use Rattle.usb_device_host.proofs.OpeningLemmas.{claimed-at}
-
--- a handle stands while claimed interfaces go on
-pub StandsInterface-same : (h g : HostState) (f : InterfaceState) → ClaimsGoOn h.interfaces g.interfaces → KeepsThere h.devices g.devices → StandsInterface h f → StandsInterface g f
-StandsInterface-same h g f goes there stands =
-    record {
-      claim = stands.claim;
-      at = goes.stays f.key stands.claim stands.at stands.open_handle;
-      number = stands.number;
-      open_handle = stands.open_handle;
-      device = there stands.claim.opened stands.device;
-    }
 
 -- each handle stands over a claim
 pub StandsInterface-claimed : (h : HostState) (key number : ℕ) (reattach : Bool) (f : InterfaceState) → StandsInterface h f → StandsInterface (host_claimed h key number reattach) f

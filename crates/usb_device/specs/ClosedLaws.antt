@@ -4,7 +4,7 @@ use Rattle.usb_device_tables.specs.History.{value_at}
 use Rattle.usb_device_ledger.specs.declared.opened.OpenDevice.{OpenDevice}
 use Rattle.usb_device_ledger.specs.Entries.{ClaimedInterface, HostEndpoint}
 use Rattle.usb_device_host.specs.HostState.{HostState}
-use Rattle.usb_device.specs.DeviceLaws.{DevicesAreHeld}
+use Rattle.usb_device_host.specs.DeviceLaws.{DevicesAreHeld}
 use Rattle.usb_device.specs.OwnerLaws.{InterfacesAreOwned, EndpointsLive}
 use Rattle.usb_device_host.specs.Finishes.{HasEnds, KeepsNothing}
 

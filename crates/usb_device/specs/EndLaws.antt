@@ -1,5 +1,5 @@
 -- The ends of tickets.
-use Rattle.std.specs.Prelude.{ℕ, ◌≡◌, Bool, Some, None, is_some, slice_get, if◌then◌else◌}
+use Rattle.std.specs.Prelude.{ℕ, ◌≡◌, Bool, Option, Some, None, is_some, slice_get, if◌then◌else◌}
 use Rattle.usb_kernel_devices.specs.declared.step.KernelStep.{KernelStep}
 use Rattle.usb_xfer.specs.declared.transfer.TransferData.{TransferData}
 use Rattle.usb_device_endpoint.specs.declared.route.Route.{Route}
@@ -40,7 +40,8 @@ pub record EndsStay : Type 0 where
   pub reap : (h : HostState) (t : ℕ) → KeepsEnds h (host_reaped h t)
   pub timer : (h : HostState) → KeepsEnds h (host_timed h)
   pub idle : (h : HostState) (until : ℕ) → KeepsEnds h (host_idled h until)
-  pub submit : (h : HostState) (to : Route) (t : TransferData) → KeepsEnds h (host_submitted h to t)
+  pub submit : (h : HostState) (to : Route) (deadline : Option ℕ) (t : TransferData) →
+      KeepsEnds h (host_submitted h to deadline t)
   pub refuse : (h : HostState) (to : Route) (t : TransferData) (errno : ℕ) →
       KeepsEnds h (host_refused h to t errno)
   pub start_control : (h : HostState) (s : Submission) → KeepsEnds h (host_started h s)

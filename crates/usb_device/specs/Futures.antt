@@ -15,7 +15,7 @@ use Rattle.usb_device_host.specs.HostBus.{owner_at, key_at}
 use Rattle.usb_device_host.specs.HostCalls.{host_left, host_calls}
 use Rattle.usb_device_host.specs.HostAwaits.{deadline_of, host_awaited}
 use Rattle.usb_device_host.specs.TicketEnds.{host_taken, host_abandoned}
-use Rattle.usb_device_host.specs.Controls.{deadline_after}
+use Rattle.usb_kernel.specs.Timers.{deadline_after}
 
 -- a future: the key of its control endpoint, the ticket that this holds, or nothing once a poll has
 -- taken it, the ticket's deadline, and where the data go

@@ -17,7 +17,7 @@ use Rattle.usb_device_host.specs.CallErrors.{Leaves}
 use Rattle.usb_device_host.specs.Handles.{device_closed, handle_closed}
 use Rattle.usb_device_host.specs.EndpointOpens.{OpensEndpoint}
 use Rattle.usb_device_host.specs.InterfaceClaims.{claimed_key, claim_tried, host_claimed}
-use Rattle.usb_device.specs.HandleStates.{InterfaceState}
+use Rattle.usb_device_host.specs.HandleStates.{InterfaceState}
 
 -- an interface of the open device of this key is claimed, or the kernel refuses
 pub record ClaimsInterface (old new : HostState) (key interface : ℕ) (reattach : Bool)

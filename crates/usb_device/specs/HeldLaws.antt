@@ -17,14 +17,14 @@ use Rattle.usb_device_host.specs.HostAwaits.{host_awaited}
 use Rattle.usb_device_host.specs.Controls.{host_started}
 use Rattle.usb_device_host.specs.TicketEnds.{host_ended, host_taken, host_abandoned}
 use Rattle.usb_device_host.specs.Finishes.{finished}
-use Rattle.usb_device.specs.HandleStates.{InterfaceState, StandsDevice, StandsInterface}
+use Rattle.usb_device_host.specs.HandleStates.{InterfaceState, StandsDevice, StandsInterface}
 use Rattle.usb_device_host.specs.Handles.{device_cloned, device_closed, handle_cloned, handle_closed}
 use Rattle.usb_device_host.specs.Opens.{host_opened}
 use Rattle.usb_device_host.specs.InterfaceClaims.{host_claimed}
 use Rattle.usb_device_host.specs.EndpointOpens.{host_asked, with_endpoint}
 use Rattle.usb_device_host.specs.OnDevices.{host_detached, host_attached, host_reset, host_configured, host_speed_asked}
 use Rattle.usb_device_host.specs.OnInterfaces.{alt_setting_set}
-use Rattle.usb_device.specs.DeviceLaws.{DevicesAreHeld}
+use Rattle.usb_device_host.specs.DeviceLaws.{DevicesAreHeld}
 
 -- an open device with an open handle stays, with at least its handles
 pub record KeepsDevice (devices : List (Option OpenDevice)) (key handles : ℕ) : Type 0 where
@@ -61,7 +61,8 @@ pub record DevicesStayHeld : Type 0 where
   pub wait : (h : HostState) (t timeout : ℕ) → KeepsHeld h (waited host_calls t timeout h)
   pub block : (h : HostState) (t timeout : ℕ) → KeepsHeld h (blocked host_calls t timeout h)
   pub await_ticket : (h : HostState) (t deadline : ℕ) → KeepsHeld h (host_awaited h t deadline)
-  pub submit : (h : HostState) (to : Route) (t : TransferData) → KeepsHeld h (host_submitted h to t)
+  pub submit : (h : HostState) (to : Route) (deadline : Option ℕ) (t : TransferData) →
+      KeepsHeld h (host_submitted h to deadline t)
   pub refuse : (h : HostState) (to : Route) (t : TransferData) (errno : ℕ) →
       KeepsHeld h (host_refused h to t errno)
   pub start_control : (h : HostState) (s : Submission) → KeepsHeld h (host_started h s)

@@ -1,12 +1,11 @@
-pub mod HandleStates
 pub mod HandleCalls
+pub mod InterfaceAnswers
 pub mod Futures
 pub mod ControlCalls
 pub mod DescriptorCalls
 pub mod LineLaws
 pub mod EndLaws
 pub mod OwnerLaws
-pub mod DeviceLaws
 pub mod KeptHandles
 pub mod HeldLaws
 pub mod ClosedLaws

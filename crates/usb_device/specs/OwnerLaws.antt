@@ -24,7 +24,7 @@ use Rattle.usb_device_host.specs.HostAwaits.{host_awaited}
 use Rattle.usb_device_host.specs.Controls.{host_started}
 use Rattle.usb_device_host.specs.TicketEnds.{host_ended, host_taken, host_abandoned}
 use Rattle.usb_device_host.specs.Finishes.{finished}
-use Rattle.usb_device.specs.HandleStates.{InterfaceState, StandsInterface}
+use Rattle.usb_device_host.specs.HandleStates.{InterfaceState, StandsInterface}
 use Rattle.usb_device_host.specs.Handles.{device_cloned, device_closed, handle_cloned, handle_closed}
 use Rattle.usb_device_host.specs.Opens.{host_opened}
 use Rattle.usb_device_host.specs.InterfaceClaims.{host_claimed}
@@ -121,8 +121,8 @@ pub record ClaimsStayOwned : Type 0 where
   pub wait : (h : HostState) (t timeout : ℕ) → KeepsClaims h (waited host_calls t timeout h)
   pub block : (h : HostState) (t timeout : ℕ) → KeepsClaims h (blocked host_calls t timeout h)
   pub await_ticket : (h : HostState) (t deadline : ℕ) → KeepsClaims h (host_awaited h t deadline)
-  pub submit : (h : HostState) (to : Route) (t : TransferData) →
-      key_at h.endpoints to.key ≡ true → KeepsClaims h (host_submitted h to t)
+  pub submit : (h : HostState) (to : Route) (deadline : Option ℕ) (t : TransferData) →
+      key_at h.endpoints to.key ≡ true → KeepsClaims h (host_submitted h to deadline t)
   pub refuse : (h : HostState) (to : Route) (t : TransferData) (errno : ℕ) →
       key_at h.endpoints to.key ≡ true → KeepsClaims h (host_refused h to t errno)
   pub start_control : (h : HostState) (s : Submission) → KeepsClaims h (host_started h s)

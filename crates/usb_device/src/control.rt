@@ -6,7 +6,7 @@ ghost use Rattle.usb_desc.specs.declared.types.TransferType.TheVariants.{Control
 ghost use Rattle.usb_device_tables.specs.History.{value_at};
 ghost use Rattle.usb_xfer.specs.Transfers.{IsRequest, request_in, request_out};
 ghost use Rattle.usb_error.specs.Outcomes.{result_map};
-ghost use Rattle.usb_device.specs.HandleStates.{StandsDevice, StandsInterface};
+ghost use Rattle.usb_device_host.specs.HandleStates.{StandsDevice, StandsInterface};
 ghost use Rattle.usb_device.specs.KeptHandles.{HandlesStand};
 ghost use Rattle.usb_device_host.specs.CallErrors.{Leaves};
 ghost use Rattle.usb_device_host.specs.Controls.{request_started};
@@ -66,7 +66,7 @@ fn finish(
 impl Device {
     /// Starts a control transfer on the device's endpoint 0 whose data come from the device (USB
     /// 2.0, section 9.3). Its deadline is `timeout` nanoseconds away, of which those of a day count
-    /// at most (`deadline_after`, Controls.antt of usb_device_host): the first turn of the kernel's timer
+    /// at most (`deadline_after`, Timers.antt of usb_kernel): the first turn of the kernel's timer
     /// from then on discards it, if it is unfinished. An `Err` is want of memory, and then nothing
     /// has changed.
     pub fn start_control_in(
@@ -180,7 +180,7 @@ impl Device {
 impl Interface {
     /// Starts a control transfer on the endpoint 0 of the interface's device whose data come from
     /// the device (USB 2.0, section 9.3). Its deadline is `timeout` nanoseconds away, of which those
-    /// of a day count at most (`deadline_after`, Controls.antt of usb_device_host): the first turn of the
+    /// of a day count at most (`deadline_after`, Timers.antt of usb_kernel): the first turn of the
     /// kernel's timer from then on discards it, if it is unfinished. An `Err` is want of memory, and
     /// then nothing has changed.
     pub fn start_control_in(

@@ -5,7 +5,7 @@ ghost use Rattle.std.specs.Option.{ForSome};
 ghost use Rattle.std.specs.Int.NonZero.{non_zero_u8_get};
 ghost use Rattle.usb_device_tables.specs.History.{value_at};
 ghost use Rattle.usb_error.specs.Outcomes.{result_map};
-ghost use Rattle.usb_device.specs.HandleStates.{StandsDevice};
+ghost use Rattle.usb_device_host.specs.HandleStates.{StandsDevice};
 ghost use Rattle.usb_device.specs.KeptHandles.{HandlesStand};
 ghost use Rattle.usb_device_host.specs.CallErrors.{Leaves};
 ghost use Rattle.usb_device.specs.ControlCalls.{Answers};

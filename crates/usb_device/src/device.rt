@@ -6,7 +6,7 @@ ghost use Rattle.usb_desc.specs.Configurations as spec;
 ghost use Rattle.usb_desc.specs.Fields.{direction_of_address};
 ghost use Rattle.usb_device_host.specs.HostState.{HostState};
 ghost use Rattle.usb_device.specs.HandleCalls.{ClaimsInterface, ClaimsAndCloses, OpensAndCloses, ReleasesInterface};
-ghost use Rattle.usb_device.specs.HandleStates.{StandsDevice, StandsInterface};
+ghost use Rattle.usb_device_host.specs.HandleStates.{StandsDevice, StandsInterface};
 ghost use Rattle.usb_device.specs.KeptHandles.{HandlesStand, StandBesideDevice, StandBesideInterface};
 ghost use Rattle.usb_device_endpoint.specs.Handles.{Stands, KeepsOthers};
 ghost use Rattle.usb_device_host.specs.HostBus.{bus_of};
@@ -70,7 +70,7 @@ pub struct Interface {
 }
 
 impl Model for Interface {
-    ghost use Rattle.usb_device.specs.HandleStates.{InterfaceState};
+    ghost use Rattle.usb_device_host.specs.HandleStates.{InterfaceState};
 
     ghost Value = { InterfaceState };
 

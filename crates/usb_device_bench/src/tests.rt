@@ -2,7 +2,7 @@
 //! of the simulation.
 
 ghost use Rattle.std.specs.Prelude.{◌<◌, ◌^◌, length};
-ghost use Rattle.usb_device.specs.HandleStates.{StandsDevice};
+ghost use Rattle.usb_device_host.specs.HandleStates.{StandsDevice};
 
 use crate::{SimBench, sent};
 use std::alloc::Global;

@@ -1,8 +1,8 @@
 use Rattle.std.proofs.Common.{sym, subst}
 use Rattle.usb_device_host.specs.HostState.{HostState}
-use Rattle.usb_device.specs.HandleStates.{StandsDevice}
+use Rattle.usb_device_host.specs.HandleStates.{StandsDevice}
 use Rattle.usb_device_host.specs.EndpointOpens.{host_asked}
-use Rattle.usb_device.proofs.DeviceLemmas.{counts-stands}
+use Rattle.usb_device_host.proofs.DeviceLemmas.{counts-stands}
 use Rattle.usb_device_host.proofs.InterfaceFrames.{asked-counts}
 use Rattle.usb_device.proofs.KeptLemmas.{stand-asked}
 use Rattle.usb_device.proofs.device.Device.ask_configuration.Goals as goal

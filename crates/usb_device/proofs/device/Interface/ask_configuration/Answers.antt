@@ -1,6 +1,6 @@
 use Rattle.std.proofs.Common.{◌≡◌, ◌∙◌, ap, Some}
 use Rattle.usb_device_tables.specs.History.{value_at}
-use Rattle.usb_device.specs.HandleStates.{InterfaceState}
+use Rattle.usb_device_host.specs.HandleStates.{InterfaceState}
 use Rattle.usb_device.proofs.StandLemmas.{asked-interface}
 use Rattle.usb_device.proofs.KeptLemmas.{stand-asked}
 use Rattle.usb_device.proofs.device.Interface.ask_configuration.Goals as goal

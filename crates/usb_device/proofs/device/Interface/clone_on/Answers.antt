@@ -1,5 +1,5 @@
 use Rattle.std.proofs.Common.{ap}
-use Rattle.usb_device.specs.HandleStates.{InterfaceState}
+use Rattle.usb_device_host.specs.HandleStates.{InterfaceState}
 use Rattle.usb_device.proofs.KeptLemmas.{stand-handle_cloned}
 use Rattle.usb_device.proofs.device.Interface.clone_on.Goals as goal
 

@@ -1,5 +1,5 @@
 use Rattle.usb_device_host.specs.HostState.{HostState}
-use Rattle.usb_device.specs.HandleStates.{StandsInterface}
+use Rattle.usb_device_host.specs.HandleStates.{StandsInterface}
 use Rattle.usb_device.specs.ControlCalls.{controlled}
 use Rattle.usb_device_host.proofs.Left.{left}
 use Rattle.usb_device.proofs.FutureFrames.{interface-controlled}

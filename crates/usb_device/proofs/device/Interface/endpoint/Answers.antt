@@ -2,7 +2,7 @@ use Rattle.std.proofs.Common.{◌≡◌, ◌∙◌, ap, Some, length, []}
 use Rattle.usb_device_tables.specs.History.{value_at}
 use Rattle.usb_device_endpoint.specs.declared.route.Route.{Route}
 use Rattle.usb_device_endpoint.specs.EndpointState.{EndpointState}
-use Rattle.usb_device.specs.HandleStates.{InterfaceState}
+use Rattle.usb_device_host.specs.HandleStates.{InterfaceState}
 use Rattle.usb_device_host.specs.EndpointOpens.{host_asked, with_endpoint}
 use Rattle.usb_device_host.proofs.EndpointLemmas.{endpoint-stands, endpoint-others}
 use Rattle.usb_device.proofs.StandLemmas.{endpoint-interface, asked-interface}
