@@ -1,5 +1,5 @@
 -- What the calls of readers and writers keep of their endpoint and of the rest of its bus.
-use Rattle.std.proofs.Common.{◌∙◌, ◌≡◌, ℕ, max, ◌+◌, ◌<◌, ◌≤◌, arith, [], ◌∷◌, ◌++◌, length, length-append, Result, Ok, Err, OnOk, OnErr, Bool, refl, ap, subst}
+use Rattle.std.proofs.Common.{◌∙◌, ◌≡◌, ℕ, max, ◌+◌, ◌<◌, ◌≤◌, arith, [], ◌∷◌, ◌++◌, length, length-append, None, Result, Ok, Err, OnOk, OnErr, Bool, refl, ap, subst}
 use Rattle.usb_xfer.specs.BufferState.{BufferState}
 use Rattle.usb_kernel.proofs.Extends.{extends-same, extends-trans}
 use Rattle.usb_device_endpoint.specs.declared.route.Route.{Route}
@@ -55,11 +55,11 @@ writes-trans {x} {y} {z} {e} {f} {g} first second =
       clock = let a = first.goes_on.clock in let b = second.goes_on.clock in omega (arith, a, b);
     })
 
-went-submitted : {A E S : Type 0} (state : S → BusState) (r : Result A E) (old new : S) (to : Route) (b : BufferState) (valid : Bool) (e next : EndpointState) → OnOk r (Enters (state old) (state new) to b valid) → OnErr r ((next ≡ e) × (new ≡ old)) → WentOn (state old) (state new)
+went-submitted : {A E S : Type 0} (state : S → BusState) (r : Result A E) (old new : S) (to : Route) (b : BufferState) (valid : Bool) (e next : EndpointState) → OnOk r (Enters (state old) (state new) to None b valid) → OnErr r ((next ≡ e) × (new ≡ old)) → WentOn (state old) (state new)
 went-submitted state (Ok x) old new to b valid e next enters same = record { past = record { more = _ ∷ []; is = enters.ticket.past }; clock = rw enters.ticket.clock (omega arith) }
 went-submitted state (Err x) old new to b valid e next enters same = rw same.1 (record { past = extends-same (state old).past; clock = omega arith })
 
 pub writes-submitted : {A E S : Type 0} (state : S → BusState) (r : Result A E) (old new : S) (to : Route) (b : BufferState) (valid : Bool) (e first next : EndpointState) (t : ℕ) → e ≡ first → length first.pending < 64
-    → OnOk r (Enters (state old) (state new) to b valid) → OnErr r ((next ≡ e) × (new ≡ old)) → OnOk r (next ≡ record e { pending = e.pending ++ t ∷ [] }) → Stands (state new) next → KeepsOthers (state old) (state new) e.key → next ≡ record e { pending = next.pending } → WritesAlong (state old) (state new) first next
+    → OnOk r (Enters (state old) (state new) to None b valid) → OnErr r ((next ≡ e) × (new ≡ old)) → OnOk r (next ≡ record e { pending = e.pending ++ t ∷ [] }) → Stands (state new) next → KeepsOthers (state old) (state new) e.key → next ≡ record e { pending = next.pending } → WritesAlong (state old) (state new) first next
 writes-submitted state r old new to b valid e first next t is few enters same after stands others rest =
     keeps-submitted state r old new e first next t is few same after stands others rest (went-submitted state r old new to b valid e next enters same)

@@ -46,7 +46,7 @@ all-push past d e m (u ∷ ts) (x ∷ bs) t b all is = (all.0, all-push past d e
 own-body : (e : ℕ) (b : BufferState) → e < 128 → body_of e b ≡ Sent b.bytes
 own-body e b output = rw (lt-leb 128 e output) refl
 
-own-ticket : (past : List Event) (e : EndpointState) (b : BufferState) (refusal : Option ℕ) → e.address < 128 → Carries (submit_or_refuse (length (tickets past)) (submission_of (route_of e) b) refusal ∷ past) e.device e.address e.maximum (length (tickets past)) b.bytes
+own-ticket : (past : List Event) (e : EndpointState) (b : BufferState) (refusal : Option ℕ) → e.address < 128 → Carries (submit_or_refuse (length (tickets past)) (submission_of (route_of e) None b) refusal ∷ past) e.device e.address e.maximum (length (tickets past)) b.bytes
 own-ticket past e b None output = record { s = _; at = slice_get-last (tickets past) _; device = refl; endpoint = refl; maximum = refl; body = own-body e.address b output }
 own-ticket past e b (Some errno) output = record { s = _; at = slice_get-last (tickets past) _; device = refl; endpoint = refl; maximum = refl; body = own-body e.address b output }
 
@@ -57,7 +57,7 @@ all-below past d e m (t ∷ ts) [] all = absurd all
 all-below past d e m (t ∷ ts) (b ∷ bs) all = (slice_get_within (tickets past) t all.0.s all.0.at, all-below past d e m ts bs all.1)
 
 -- a submission
-pub carries_submitted : (old new : BusState) (e next : EndpointState) (b : BufferState) (valid : Bool) → e.address < 128 → Enters old new (route_of e) b valid → next ≡ record e { pending = e.pending ++ length (tickets old.past) ∷ [] } → CarriesOn old new e next (b.bytes ∷ [])
+pub carries_submitted : (old new : BusState) (e next : EndpointState) (b : BufferState) (valid : Bool) → e.address < 128 → Enters old new (route_of e) None b valid → next ≡ record e { pending = e.pending ++ length (tickets old.past) ∷ [] } → CarriesOn old new e next (b.bytes ∷ [])
 carries_submitted old new e next b valid output enters is = record {
   maximum = ap (λ (e : EndpointState). e.maximum) is;
   all = λ taken transfers carry. (
@@ -70,11 +70,11 @@ carries_submitted old new e next b valid output enters is = record {
   where
     more : (taken : List ℕ) (transfers : List (List ℕ)) → HandleCarries old.past e taken transfers → HandleCarries new.past (record e { pending = e.pending ++ length (tickets old.past) ∷ [] }) taken (transfers ++ b.bytes ∷ [])
     more taken transfers carry =
-        let here = all-later old.past (submit_or_refuse (length (tickets old.past)) (submission_of (route_of e) b) enters.refusal ∷ old.past) e.device e.address e.maximum (taken ++ e.pending) transfers (extends-event old.past _) carry.0 in
-        let pushed = all-push (submit_or_refuse (length (tickets old.past)) (submission_of (route_of e) b) enters.refusal ∷ old.past) e.device e.address e.maximum (taken ++ e.pending) transfers (length (tickets old.past)) b.bytes here (own-ticket old.past e b enters.refusal output) in
+        let here = all-later old.past (submit_or_refuse (length (tickets old.past)) (submission_of (route_of e) None b) enters.refusal ∷ old.past) e.device e.address e.maximum (taken ++ e.pending) transfers (extends-event old.past _) carry.0 in
+        let pushed = all-push (submit_or_refuse (length (tickets old.past)) (submission_of (route_of e) None b) enters.refusal ∷ old.past) e.device e.address e.maximum (taken ++ e.pending) transfers (length (tickets old.past)) b.bytes here (own-ticket old.past e b enters.refusal output) in
         let up = ascending-push (taken ++ e.pending) (length (tickets old.past)) carry.1 (all-below old.past e.device e.address e.maximum (taken ++ e.pending) transfers carry.0) in (
           subst (λ (past : List Event). AllCarry past e.device e.address e.maximum (taken ++ (e.pending ++ length (tickets old.past) ∷ [])) (transfers ++ b.bytes ∷ [])) (sym enters.ticket.past)
-              (subst (λ (ts : List ℕ). AllCarry (submit_or_refuse (length (tickets old.past)) (submission_of (route_of e) b) enters.refusal ∷ old.past) e.device e.address e.maximum ts (transfers ++ b.bytes ∷ [])) (append_assoc taken e.pending (length (tickets old.past) ∷ [])) pushed),
+              (subst (λ (ts : List ℕ). AllCarry (submit_or_refuse (length (tickets old.past)) (submission_of (route_of e) None b) enters.refusal ∷ old.past) e.device e.address e.maximum ts (transfers ++ b.bytes ∷ [])) (append_assoc taken e.pending (length (tickets old.past) ∷ [])) pushed),
           subst IsAscending (append_assoc taken e.pending (length (tickets old.past) ∷ [])) up,
         )
 
@@ -246,7 +246,7 @@ tells_accepted k old new w w' src n count is carries =
     (ap (λ (w : Written). w.transfers) all ∙ parts.0, ap (λ (w : Written). w.standing) all ∙ parts.1 ∙ ap (λ (x : Writing _). unwrap_or x.writer.buffer []) (sym is))
     ))
 
-pub carries_submitted_ok : {S A E : Type 0} (r : Result A E) (state : S → BusState) (old new : S) (e e0 next : EndpointState) (b : BufferState) (valid : Bool) → e ≡ e0 → e.address < 128 → OnOk r (Enters (state old) (state new) (route_of e) b valid) → OnOk r (next ≡ record e { pending = e.pending ++ length (tickets (state old).past) ∷ [] }) → OnOk r (CarriesOn (state old) (state new) e0 next (b.bytes ∷ []))
+pub carries_submitted_ok : {S A E : Type 0} (r : Result A E) (state : S → BusState) (old new : S) (e e0 next : EndpointState) (b : BufferState) (valid : Bool) → e ≡ e0 → e.address < 128 → OnOk r (Enters (state old) (state new) (route_of e) None b valid) → OnOk r (next ≡ record e { pending = e.pending ++ length (tickets (state old).past) ∷ [] }) → OnOk r (CarriesOn (state old) (state new) e0 next (b.bytes ∷ []))
 carries_submitted_ok (Ok x) state old new e e0 next b valid same output enters is = subst (λ (e : EndpointState). CarriesOn (state old) (state new) e next (b.bytes ∷ [])) same (carries_submitted (state old) (state new) e next b valid output enters is)
 carries_submitted_ok (Err x) state old new e e0 next b valid same output enters is = is
 
@@ -261,7 +261,14 @@ has-bytes : (m : ℕ) (bytes : List ℕ) → is_whole m (length bytes) ≡ true 
 has-bytes m [] whole = absurd (false≢true (sym (none-whole m) ∙ whole))
 has-bytes m (b ∷ bytes) whole = refl
 
--- a buffer was submitted, and the empty transfer that has to follow it found no memory
+-- a buffer of whole packets was submitted, and the empty transfer that has to follow it
+pub carries_ended : {S A E : Type 0} (r : Result A E) (state : S → BusState) (old mid new : S) (w0 w : WriterState) (m t : EndpointState) (bytes : List ℕ) → w ≡ w0 → w.buffer ≡ Some bytes → is_whole w.endpoint.maximum (length bytes) ≡ true → CarriesOn (state old) (state mid) w.endpoint m (bytes ∷ []) → OnOk r (CarriesOn (state mid) (state new) m t ([] ∷ [])) → OnOk r (CarriesOn (state old) (state new) w0.endpoint t (ended_bytes w0.endpoint.maximum w0.buffer))
+carries_ended (Ok x) state old mid new w0 w m t bytes same was whole first second =
+    subst (λ (w : WriterState). CarriesOn (state old) (state new) w.endpoint t (ended_bytes w.endpoint.maximum w.buffer)) same
+    (rw (was, whole) (carries_trans (state old) (state mid) (state new) w.endpoint m t (bytes ∷ []) ([] ∷ []) first second))
+carries_ended (Err x) state old mid new w0 w m t bytes same was whole first second = second
+
+-- or it found no memory
 pub tells_cut : {S A E : Type 0} (r : Result A E) (state : S → BusState) (old mid new : S) (w0 w m t : WriterState) (bytes : List ℕ) → w ≡ w0 → w.buffer ≡ Some bytes → is_whole w.endpoint.maximum (length bytes) ≡ true → CarriesOn (state old) (state mid) w.endpoint m.endpoint (bytes ∷ []) → m.size ≡ w.size → m.buffer ≡ None → OnErr r (writing new t ≡ writing mid m) → OnErr r (TellsShort (state old) (state new) w0 t)
 tells_cut (Ok x) state old mid new w0 w m t bytes same was whole carries size none is = is
 tells_cut (Err x) state old mid new w0 w m t bytes same was whole carries size none is =

@@ -36,6 +36,7 @@ impl<T: BulkOrInterrupt> EndpointRead<T> {
             × KeepsSettings self.old new
             × (until_short ≡ true
             → FollowsOn (B.calls.state bus.old) (B.calls.state bus.new) self.old new))) }
+        ensures handles { B.handles_stand bus.old bus.new }
     {
         let turned = match self.turn(bus, until_short, timeout) {
             Ok(turned) => turned,
@@ -64,6 +65,7 @@ impl<T: BulkOrInterrupt> EndpointRead<T> {
             × KeepsSettings self.old new
             × (until_short ≡ true
             → FollowsOn (B.calls.state bus.old) (B.calls.state bus.new) self.old new))) }
+        ensures handles { B.handles_stand bus.old bus.new }
     {
         let turned = match self.turn(bus, until_short, 0) {
             Ok(turned) => turned,
@@ -90,6 +92,7 @@ impl<T: BulkOrInterrupt> EndpointRead<T> {
             × ReadsAlong (B.calls.state bus.old) (B.calls.state bus.new) self.old.endpoint
             new.endpoint
             × KeepsSettings self.old new)) }
+        ensures handles { B.handles_stand bus.old bus.new }
     {
         let timeout = self.timeout;
         self.fill_within(bus, false, timeout)
@@ -104,6 +107,7 @@ impl<T: BulkOrInterrupt> EndpointRead<T> {
             × ReadsAlong (B.calls.state bus.old) (B.calls.state bus.new) self.old.endpoint
             new.endpoint
             × KeepsSettings self.old new)) }
+        ensures handles { B.handles_stand bus.old bus.new }
     {
         self.poll_fill_within(bus, false)
     }
@@ -123,6 +127,7 @@ impl<T: BulkOrInterrupt> EndpointRead<T> {
             new.endpoint
             × KeepsSettings self.old new
             × FollowsOn (B.calls.state bus.old) (B.calls.state bus.new) self.old new)) }
+        ensures handles { B.handles_stand bus.old bus.new }
     {
         let timeout = self.timeout;
         self.fill_within(bus, true, timeout)
@@ -141,6 +146,7 @@ impl<T: BulkOrInterrupt> EndpointRead<T> {
             new.endpoint
             × KeepsSettings self.old new
             × FollowsOn (B.calls.state bus.old) (B.calls.state bus.new) self.old new)) }
+        ensures handles { B.handles_stand bus.old bus.new }
     {
         self.poll_fill_within(bus, true)
     }

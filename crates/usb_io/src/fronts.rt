@@ -50,6 +50,7 @@ impl<T: BulkOrInterrupt> EndpointWrite<T> {
         ensures settings { KeepsWriter self.old self.new }
         ensures goes { WritesAlong (B.calls.state bus.old) (B.calls.state bus.new) self.old.endpoint
             self.new.endpoint }
+        ensures handles { B.handles_stand bus.old bus.new }
     {
         match self.endpoint.wait_next_complete(bus, timeout) {
             Some(completion) => {
@@ -89,6 +90,7 @@ impl<T: BulkOrInterrupt> EndpointWrite<T> {
         ensures settings { KeepsWriter self.old self.new }
         ensures goes { WritesAlong (B.calls.state bus.old) (B.calls.state bus.new) self.old.endpoint
             self.new.endpoint }
+        ensures handles { B.handles_stand bus.old bus.new }
     {
         'fronts: while self.goes(flushing) {
             match self.take(bus, timeout) {

@@ -34,6 +34,7 @@ impl<T: BulkOrInterrupt> EndpointWrite<T> {
         ensures settings { KeepsWriter self.old self.new }
         ensures goes { WritesAlong (B.calls.state bus.old) (B.calls.state bus.new) self.old.endpoint
             self.new.endpoint }
+        ensures handles { B.handles_stand bus.old bus.new }
     {
         self.endpoint.submit(bus, buffer)
     }
@@ -51,6 +52,7 @@ impl<T: BulkOrInterrupt> EndpointWrite<T> {
         ensures settings { KeepsWriter self.old self.new }
         ensures goes { WritesAlong (B.calls.state bus.old) (B.calls.state bus.new) self.old.endpoint
             self.new.endpoint }
+        ensures handles { B.handles_stand bus.old bus.new }
     {
         match self.buffer.take() {
             None => Ok(()),
@@ -82,6 +84,7 @@ impl<T: BulkOrInterrupt> EndpointWrite<T> {
         ensures settings { KeepsWriter self.old self.new }
         ensures goes { WritesAlong (B.calls.state bus.old) (B.calls.state bus.new) self.old.endpoint
             self.new.endpoint }
+        ensures handles { B.handles_stand bus.old bus.new }
     {
         let buffer = self.endpoint.allocate(0)?;
         match self.send(bus, buffer) {
@@ -127,6 +130,7 @@ impl<T: BulkOrInterrupt> EndpointWrite<T> {
         ensures settings { KeepsWriter self.old self.new }
         ensures goes { WritesAlong (B.calls.state bus.old) (B.calls.state bus.new) self.old.endpoint
             self.new.endpoint }
+        ensures handles { B.handles_stand bus.old bus.new }
     {
         let Some(buffer) = self.buffer.take() else {
             return self.send_empty(bus);
@@ -161,6 +165,7 @@ impl<T: BulkOrInterrupt> EndpointWrite<T> {
         ensures settings { KeepsWriter self.old self.new }
         ensures goes { WritesAlong (B.calls.state bus.old) (B.calls.state bus.new) self.old.endpoint
             self.new.endpoint }
+        ensures handles { B.handles_stand bus.old bus.new }
     {
         if self.begun {
             return Ok(());
@@ -190,6 +195,7 @@ impl<T: BulkOrInterrupt> EndpointWrite<T> {
         ensures settings { KeepsWriter self.old self.new }
         ensures goes { WritesAlong (B.calls.state bus.old) (B.calls.state bus.new) self.old.endpoint
             self.new.endpoint }
+        ensures handles { B.handles_stand bus.old bus.new }
     {
         self.begun = false;
         self.send_buffer(bus)
@@ -218,6 +224,7 @@ impl<T: BulkOrInterrupt> EndpointWrite<T> {
         ensures settings { KeepsWriter self.old self.new }
         ensures goes { WritesAlong (B.calls.state bus.old) (B.calls.state bus.new) self.old.endpoint
             self.new.endpoint }
+        ensures handles { B.handles_stand bus.old bus.new }
     {
         self.begun = false;
         self.send_end(bus)

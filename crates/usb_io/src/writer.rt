@@ -159,6 +159,7 @@ impl<T: BulkOrInterrupt> EndpointWrite<T> {
         ensures bus { bus.new ≡ after_close B.calls bus.old self.endpoint }
         ensures others { KeepsOthers (B.calls.state bus.old) (B.calls.state bus.new)
             self.endpoint.key }
+        ensures handles { B.handles_stand bus.old bus.new }
     {
         self.into_inner().close(bus);
     }

@@ -49,6 +49,7 @@ impl<T: BulkOrInterrupt> EndpointWrite<T> {
         ensures settings { KeepsWriter self.old self.new }
         ensures goes { WritesAlong (B.calls.state bus.old) (B.calls.state bus.new) self.old.endpoint
             self.new.endpoint }
+        ensures handles { B.handles_stand bus.old bus.new }
     {
         let mut buffer = self.next_out_buffer()?;
         let held = buffer.len();
@@ -87,6 +88,7 @@ impl<T: BulkOrInterrupt> EndpointWrite<T> {
         ensures settings { KeepsWriter self.old self.new }
         ensures goes { WritesAlong (B.calls.state bus.old) (B.calls.state bus.new) self.old.endpoint
             self.new.endpoint }
+        ensures handles { B.handles_stand bus.old bus.new }
     {
         self.begun = false;
         match self.drain(bus, false, timeout) {
@@ -119,6 +121,7 @@ impl<T: BulkOrInterrupt> EndpointWrite<T> {
         ensures settings { KeepsWriter self.old self.new }
         ensures goes { WritesAlong (B.calls.state bus.old) (B.calls.state bus.new) self.old.endpoint
             self.new.endpoint }
+        ensures handles { B.handles_stand bus.old bus.new }
     {
         let timeout = self.timeout;
         self.write_within(bus, src, timeout)
@@ -143,6 +146,7 @@ impl<T: BulkOrInterrupt> EndpointWrite<T> {
         ensures settings { KeepsWriter self.old self.new }
         ensures goes { WritesAlong (B.calls.state bus.old) (B.calls.state bus.new) self.old.endpoint
             self.new.endpoint }
+        ensures handles { B.handles_stand bus.old bus.new }
     {
         match self.write_within(bus, src, 0) {
             Ok(n) => Poll::Ready(Ok(n)),
@@ -164,6 +168,7 @@ impl<T: BulkOrInterrupt> EndpointWrite<T> {
         ensures settings { KeepsWriter self.old self.new }
         ensures goes { WritesAlong (B.calls.state bus.old) (B.calls.state bus.new) self.old.endpoint
             self.new.endpoint }
+        ensures handles { B.handles_stand bus.old bus.new }
     {
         if self.submit(bus).is_err() {
             return Err(Fail::Memory);
@@ -194,6 +199,7 @@ impl<T: BulkOrInterrupt> EndpointWrite<T> {
         ensures settings { KeepsWriter self.old self.new }
         ensures goes { WritesAlong (B.calls.state bus.old) (B.calls.state bus.new) self.old.endpoint
             self.new.endpoint }
+        ensures handles { B.handles_stand bus.old bus.new }
     {
         let timeout = self.timeout;
         self.flush_within(bus, timeout)
@@ -213,6 +219,7 @@ impl<T: BulkOrInterrupt> EndpointWrite<T> {
         ensures settings { KeepsWriter self.old self.new }
         ensures goes { WritesAlong (B.calls.state bus.old) (B.calls.state bus.new) self.old.endpoint
             self.new.endpoint }
+        ensures handles { B.handles_stand bus.old bus.new }
     {
         match self.flush_within(bus, 0) {
             Ok(()) => Poll::Ready(Ok(())),
@@ -242,6 +249,7 @@ impl<T: BulkOrInterrupt> EndpointWrite<T> {
         ensures settings { KeepsWriter self.old self.new }
         ensures goes { WritesAlong (B.calls.state bus.old) (B.calls.state bus.new) self.old.endpoint
             self.new.endpoint }
+        ensures handles { B.handles_stand bus.old bus.new }
     {
         let timeout = self.timeout;
         if self.submit_end(bus).is_err() {
@@ -271,6 +279,7 @@ impl<T: BulkOrInterrupt> EndpointWrite<T> {
         ensures settings { KeepsWriter self.old self.new }
         ensures goes { WritesAlong (B.calls.state bus.old) (B.calls.state bus.new) self.old.endpoint
             self.new.endpoint }
+        ensures handles { B.handles_stand bus.old bus.new }
     {
         if self.begin_end(bus).is_err() {
             return Poll::Ready(Err(Fail::Memory));

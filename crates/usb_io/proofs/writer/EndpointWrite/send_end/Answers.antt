@@ -3,8 +3,13 @@ use Rattle.usb_kernel.specs.WholePackets.{is_whole}
 use Rattle.usb_io.specs.Along.{WritesAlong}
 use Rattle.usb_io.specs.Writers.{WriterState, Writing, bytes_of}
 use Rattle.usb_io.proofs.AlongLemmas.{writes-trans}
-use Rattle.usb_io.proofs.Carrying.{tells_cut}
+use Rattle.usb_io.proofs.Carrying.{carries_ended, tells_cut}
 use Rattle.usb_io.proofs.writer.EndpointWrite.send_end.Goals as goal
+
+pub returns-in-Ok-clause-carries : goal.returns-in-Ok-clause-carries
+returns-in-Ok-clause-carries g c =
+    carries_ended c.send_empty-in-Ok.result g.B.Bus.calls.state c.args.bus.now c.send.new.bus c.send_empty-in-Ok.new.bus c.args.self.now _ c.send.new.self.endpoint c.send_empty-in-Ok.new.self.endpoint c.in-Some.buffer.bytes c.self.view_is
+    (ap bytes_of (sym c.in-Some.ensures.value)) (sym (c.if-is_whole.ensures.whole ∙ ap (is_whole c.self.inside.endpoint.maximum) c.len.ensures.len)) c.in-Ok.ensures.carries c.send_empty-in-Ok.ensures.carries
 
 pub returns-in-Ok-clause-short : goal.returns-in-Ok-clause-short
 returns-in-Ok-clause-short g c =
