@@ -1,0 +1,10 @@
+pub mod Messages
+pub mod Steps
+pub mod WholeFrames
+pub mod PieceLemmas
+pub mod ReadEnds
+pub mod KeepLemmas
+pub mod RequestLemmas
+pub mod Worked
+pub mod Standing
+pub mod Living

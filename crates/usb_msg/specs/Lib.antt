@@ -1,0 +1,10 @@
+pub mod Frames
+pub mod Clients
+pub mod Errors
+pub mod Sending
+pub mod Texts
+pub mod Requests
+pub mod Responses
+pub mod Histories
+pub mod Laws
+pub mod Lives
