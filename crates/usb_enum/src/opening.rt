@@ -2,7 +2,7 @@
 
 ghost use Rattle.std.specs.Prelude.{IfOk};
 ghost use Rattle.usb_device_host.specs.CallErrors.{Leaves};
-ghost use Rattle.usb_device.specs.HandleStates.{StandsDevice};
+ghost use Rattle.usb_device_host.specs.HandleStates.{StandsDevice};
 ghost use Rattle.usb_device_host.specs.Opens.{host_opened, open_key};
 ghost use Rattle.usb_error.specs.Outcomes.{Tried};
 

@@ -1,5 +1,5 @@
 -- What the calls of an endpoint tell: of its value before and after, and of the kernel's where one is lent.
-use Rattle.std.specs.Prelude.{◌≡◌, ◌≢◌, ◌⊎◌, ◌&&◌, not, ℕ, ◌+◌, ◌*◌, ◌<◌, List, [], ◌∷◌, ◌++◌, true, false, Bool, cond, min, Result, Ok, Err}
+use Rattle.std.specs.Prelude.{◌≡◌, ◌≢◌, ◌⊎◌, ◌&&◌, not, ℕ, ◌+◌, ◌*◌, ◌<◌, List, [], ◌∷◌, ◌++◌, true, false, Bool, cond, min, None, Result, Ok, Err}
 use Rattle.futures.specs.declared.task.Poll.{Poll}
 use Rattle.futures.specs.declared.task.Poll.TheVariants.{Ready}
 use Rattle.usb_xfer.specs.BufferState.{BufferState}
@@ -40,7 +40,7 @@ pub record GetsCell (s : Submitted) (t : ℕ) (x y : Live) : Type 0 where
 -- Ok: the transfer is submitted, and the kernel has its Submit or Refuse. Full: each cell is occupied. Memory: some cell is free
 abbrev pub SubmitTells : Result ℕ LiveError → BufferState → Live → KernelState → Live → KernelState → Type 0
 SubmitTells (Ok t) b x k y l =
-    GetsCell (submitted k (submission_of x.route b)) t x y × (l ≡ after_submitted k (submission_of x.route b))
+    GetsCell (submitted k (submission_of x.route None b)) t x y × (l ≡ after_submitted k (submission_of x.route None b))
 SubmitTells (Err (Full c)) b x k y l = (c ≡ b) × (y ≡ x) × (l ≡ k) × ((i : ℕ) → i < 64 → stage_at x.seat.view.owner i ≢ Free)
 SubmitTells (Err (Memory c)) b x k y l = (c ≡ b) × (y ≡ x) × (l ≡ k) × ((i : ℕ) × (i < 64) × (stage_at x.seat.view.owner i ≡ Free))
 

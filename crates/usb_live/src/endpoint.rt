@@ -7,7 +7,6 @@ ghost use Rattle.usb_kernel.specs.Submits.{number_of};
 ghost use Rattle.usb_live.specs.declared.view.Owned.TheVariants.{Free, Mine, Left};
 ghost use Rattle.usb_live.specs.Rows.{owner_cell};
 ghost use Rattle.usb_live.specs.Seats.{OwnerState, owner_in, owns, owner_looks, has_own, hears};
-ghost use Rattle.usb_device_endpoint.specs.Routes.{submission_of};
 ghost use Rattle.usb_live.specs.Submits.{is_valid, submitted, after_submitted, entry_of};
 ghost use Rattle.usb_live.specs.Live.{LiesInCell, IsDropped, placed};
 
@@ -44,21 +43,6 @@ impl<'a> Model for LiveEndpoint<'a> {
     } };
 
     ghost invariant = { λ e. Orderly e.seat.view e.queue.items e.used };
-}
-
-/// What the route hands in for a buffer.
-fn submission(to: Route, buffer: Buffer) -> Submission
-    ensures submission { result ≡ submission_of to buffer }
-{
-    Submission {
-        device: to.device,
-        endpoint: to.endpoint,
-        kind: to.kind,
-        maximum: to.maximum,
-        deadline: None,
-        setup: None,
-        buffer,
-    }
 }
 
 /// Whether an IN endpoint is asked for whole packets, at least one. An OUT endpoint sends any bytes.
@@ -228,7 +212,7 @@ impl<'a> LiveEndpoint<'a> {
         if self.queue.reserve(1).is_err() {
             return Err(LiveError::Memory(buf));
         }
-        let submitted = match enter(kernel, submission(self.to, buf)) {
+        let submitted = match enter(kernel, self.to.submission(None, buf)) {
             Ok(submitted) => submitted,
             Err(back) => return Err(LiveError::Memory(back.buffer)),
         };
