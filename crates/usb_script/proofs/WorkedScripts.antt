@@ -5,7 +5,7 @@ use Rattle.usb_desc.specs.declared.control.Recipient.TheVariants as recipient
 use Rattle.usb_script_words.specs.declared.control.ControlTarget.TheVariants as target
 use Rattle.usb_script_words.specs.declared.endpoint_kind.EndpointKind.TheVariants.{BulkIn, BulkOut, InterruptIn, InterruptOut}
 use Rattle.usb_script_words.specs.declared.framing.Framing.TheVariants.{Plain, UntilShort}
-use Rattle.usb_script_lines.specs.declared.item.Item.TheVariants.{Device, Driver, Now, Open, DeviceDescriptor, Descriptors, CloneDevice, CloseDevice, ActiveConfiguration, Speed, SetConfiguration, Reset, DetachDriver, AttachDriver, Claim, DetachAndClaim, CloneInterface, CloseInterface, SetAltSetting, GetAltSetting, InterfaceDescriptor, Release, Endpoint, SubmitIn, SubmitOut, Pending, Poll, Wait, TransferIn, TransferOut, Cancel, ClearHalt, CloseEndpoint, Reader, IntoInner, SetNumTransfers, SetReadTimeout, CancelReader, CloseReader, PollRead, FillBuf, PollFillBuf, Consume, IsEnd, ConsumeEnd, Writer, WriterIntoInner, SetWriterTransfers, SetWriteTimeout, CloseWriter, Write, PollWrite, Submit, SubmitEnd, Flush, PollFlush, FlushEnd, PollFlushEnd, ControlIn, ControlOut, StartControlIn, StartControlOut, PollFuture, WaitFuture, GetDescriptor, SupportedLanguages, StringDescriptor, CloseFuture, Steps}
+use Rattle.usb_script_lines.specs.declared.item.Item.TheVariants.{Device, Driver, Now, Open, DeviceDescriptor, Descriptors, CloneDevice, CloseDevice, ActiveConfiguration, Speed, SetConfiguration, Reset, DetachDriver, AttachDriver, Claim, DetachAndClaim, CloneInterface, CloseInterface, SetAltSetting, GetAltSetting, InterfaceDescriptor, Release, Endpoint, SubmitIn, SubmitOut, SubmitInWithDeadline, SubmitOutWithDeadline, Pending, Poll, Wait, TransferIn, TransferOut, Cancel, ClearHalt, CloseEndpoint, Reader, IntoInner, SetNumTransfers, SetReadTimeout, CancelReader, ClearReaderHalt, CloseReader, PollRead, FillBuf, PollFillBuf, Consume, IsEnd, ConsumeEnd, Writer, WriterIntoInner, SetWriterTransfers, SetWriteTimeout, CloseWriter, Write, PollWrite, Submit, SubmitEnd, Flush, PollFlush, FlushEnd, PollFlushEnd, ControlIn, ControlOut, StartControlIn, StartControlOut, PollFuture, WaitFuture, GetDescriptor, SupportedLanguages, StringDescriptor, CloseFuture, Steps}
 use Rattle.usb_script_lines.specs.declared.item.Item.TheVariants as item
 use Rattle.usb_script.specs.declared.error.SessionError.TheVariants.{Malformed}
 use Rattle.usb_script_lines.specs.declared.reading.Reading.TheVariants.{Skipped, Read}
@@ -223,6 +223,8 @@ each_line :
     ++ codes "ifdesc i53" ++ 10 ∷ []
     ++ codes "release i54" ++ 10 ∷ []
     ++ codes "halt e55" ++ 10 ∷ []
+    ++ codes "dsubmitin e56 57 58" ++ 10 ∷ []
+    ++ codes "dsubmitout e59 60 max" ++ 10 ∷ []
     )
     ≡ Ok (
     Device 1 2 3 4 5 (10 ∷ 255 ∷ [])
@@ -259,6 +261,8 @@ each_line :
     ∷ InterfaceDescriptor 53
     ∷ Release 54
     ∷ ClearHalt 55
+    ∷ SubmitInWithDeadline 56 57 58
+    ∷ SubmitOutWithDeadline 59 (96 ∷ []) 18446744073709551615
     ∷ []
     )
 unfolding script_on_literals
@@ -331,6 +335,7 @@ each_reader_line :
     ++ codes "sconsume r24 25" ++ 10 ∷ []
     ++ codes "isend r26" ++ 10 ∷ []
     ++ codes "endmsg r27" ++ 10 ∷ []
+    ++ codes "halt r28" ++ 10 ∷ []
     )
     ≡ Ok (
     Reader 1 2 3
@@ -351,10 +356,23 @@ each_reader_line :
     ∷ Consume UntilShort 24 25
     ∷ IsEnd 26
     ∷ ConsumeEnd 27
+    ∷ ClearReaderHalt 28
     ∷ []
     )
 unfolding script_on_literals
 each_reader_line = refl
+
+submission_without_its_time : reading_of (codes "dsubmitin e0 64") ≡ None
+unfolding script_on_literals
+submission_without_its_time = refl
+
+submission_with_steps : reading_of (codes "dsubmitout e0 00 5 : reap") ≡ None
+unfolding script_on_literals
+submission_with_steps = refl
+
+halt_of_a_writer : reading_of (codes "halt w0") ≡ None
+unfolding script_on_literals
+halt_of_a_writer = refl
 
 read_of_no_bytes : reading_of (codes "read r0 0") ≡ None
 unfolding script_on_literals

@@ -1,12 +1,14 @@
 -- Which lines are calls on what is open or on the tree, and which of these are control transfers, or on interfaces, endpoints, readers and writers.
 use Rattle.std.specs.Prelude.{Bool, true, false}
 use Rattle.usb_script_lines.specs.declared.item.Item.{Item}
-use Rattle.usb_script_lines.specs.declared.item.Item.TheVariants.{Device, Driver, Attribute, Denied, Child, Link, Entry, Root, Uevent, List, Buses, Probe, Match, Hotplug, OpenPath, Now, CloneInterface, CloseInterface, SetAltSetting, GetAltSetting, InterfaceDescriptor, Release, Endpoint, SubmitIn, SubmitOut, Pending, Poll, Wait, TransferIn, TransferOut, Cancel, ClearHalt, CloseEndpoint, Reader, IntoInner, SetNumTransfers, SetReadTimeout, CancelReader, CloseReader, Read, PollRead, FillBuf, PollFillBuf, Consume, IsEnd, ConsumeEnd, Writer, WriterIntoInner, SetWriterTransfers, SetWriteTimeout, CloseWriter, Write, PollWrite, Submit, SubmitEnd, Flush, PollFlush, FlushEnd, PollFlushEnd, ControlIn, ControlOut, GetDescriptor, SupportedLanguages, StringDescriptor, StartControlIn, StartControlOut, PollFuture, WaitFuture, CloseFuture, Steps}
+use Rattle.usb_script_lines.specs.declared.item.Item.TheVariants.{Device, Driver, Attribute, Denied, Child, Link, Entry, Root, Uevent, List, Buses, Probe, Match, Hotplug, OpenPath, Now, CloneInterface, CloseInterface, SetAltSetting, GetAltSetting, InterfaceDescriptor, Release, Endpoint, SubmitIn, SubmitOut, SubmitInWithDeadline, SubmitOutWithDeadline, Pending, Poll, Wait, TransferIn, TransferOut, Cancel, ClearHalt, CloseEndpoint, Reader, IntoInner, SetNumTransfers, SetReadTimeout, CancelReader, ClearReaderHalt, CloseReader, Read, PollRead, FillBuf, PollFillBuf, Consume, IsEnd, ConsumeEnd, Writer, WriterIntoInner, SetWriterTransfers, SetWriteTimeout, CloseWriter, Write, PollWrite, Submit, SubmitEnd, Flush, PollFlush, FlushEnd, PollFlushEnd, ControlIn, ControlOut, GetDescriptor, SupportedLanguages, StringDescriptor, StartControlIn, StartControlOut, PollFuture, WaitFuture, CloseFuture, Steps}
 
 -- those on an endpoint: they hand a transfer in, ask for one, wait, cancel, clear its halt or close
 abbrev pub is_of_endpoint : Item → Bool
 is_of_endpoint (SubmitIn e n) = true
 is_of_endpoint (SubmitOut e bytes) = true
+is_of_endpoint (SubmitInWithDeadline e n timeout) = true
+is_of_endpoint (SubmitOutWithDeadline e bytes timeout) = true
 is_of_endpoint (Pending e) = true
 is_of_endpoint (Poll e) = true
 is_of_endpoint (Wait e timeout steps) = true
@@ -24,6 +26,7 @@ sets_reader (IntoInner e r) = true
 sets_reader (SetNumTransfers r n) = true
 sets_reader (SetReadTimeout r timeout) = true
 sets_reader (CancelReader r) = true
+sets_reader (ClearReaderHalt r) = true
 sets_reader (CloseReader r) = true
 sets_reader item = false
 
@@ -142,6 +145,7 @@ is_of_handle (IntoInner e r) = false
 is_of_handle (SetNumTransfers r n) = false
 is_of_handle (SetReadTimeout r timeout) = false
 is_of_handle (CancelReader r) = false
+is_of_handle (ClearReaderHalt r) = false
 is_of_handle (CloseReader r) = false
 is_of_handle (Read framing r most steps) = false
 is_of_handle (PollRead framing r most) = false

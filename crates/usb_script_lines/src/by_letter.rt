@@ -1,5 +1,5 @@
 //! The item of a line by its first word. Its first letter decides, so words that begin with other letters aren't looked at.
-#![tactic(auto, unfolding(crate::specs::Forms::forms, usb_script_words::specs::Fields::one_field, usb_script_words::specs::Fields::two_fields, usb_script_words::specs::Fields::three_fields, crate::specs::Shapes::field_and_steps))]
+#![tactic(auto, unfolding(crate::specs::Forms::forms))]
 
 ghost use Rattle.std.specs.Prelude.{◌≤◌, ◌+◌, length, IfOk, codes};
 ghost use Rattle.usb_script_words.specs.Fields.{texts};
@@ -8,8 +8,21 @@ ghost use Rattle.usb_script_words.specs.Tables.{read_by, beginning};
 ghost use Rattle.usb_script_lines.specs.Forms.{forms, named_of};
 ghost use Rattle.usb_script_lines.specs.ItemKinds.{places_in};
 
-use crate::form::{exactly, field, form, letter, rows, spelled};
+use crate::control_forms::{
+    ctlin_line, ctlout_line, fin_line, fout_line, getdesc_line, string_line,
+};
+use crate::form::{exactly, field, form, letter, rows};
 use crate::item::Item;
+use crate::other_forms::{
+    device_line, dsubmitin_line, dsubmitout_line, open_line, write_line, xferout_line,
+};
+use crate::several_forms::{
+    cancel_line, clone_line, close_line, halt_line, inner_line, num_line, timeout_line,
+};
+use crate::tree_forms::{
+    attr_line, child_line, deny_line, entry_line, link_line, match_line, openpath_line, probe_line,
+    root_line, uevent_line,
+};
 use std::alloc::Global;
 use usb_script_words::LineError;
 
@@ -25,7 +38,7 @@ fn line_ab(alloc: Global, name: &[u8], words: &[&[u8]]) -> Result<Item, LineErro
         b"active" => ActiveConfiguration { device: d }
         b"alt" => SetAltSetting { interface: i, setting: B }
         b"attach" => AttachDriver { device: d, number: B }
-        b"attr" => Attribute { path: PATH, name: NAME, value: VALUE }
+        b"attr" => attr_line(alloc, words)
         b"buses" => Buses {}
     }
 }
@@ -38,15 +51,14 @@ fn line_c(alloc: Global, name: &[u8], words: &[&[u8]]) -> Result<Item, LineError
 {
     rows! {
         alloc, name, words;
-        b"cancel" => Cancel { endpoint: e } or CancelReader { reader: r }
-        b"child" => Child { path: PATH, name: NAME }
+        b"cancel" => cancel_line(words)
+        b"child" => child_line(alloc, words)
         b"claim" => Claim { device: d, number: B, interface: i }
-        b"clone" => CloneDevice { name: d, device: d } or CloneInterface { name: i, interface: i }
-        b"close" => CloseDevice { device: d } or CloseInterface { interface: i } or CloseEndpoint { endpoint: e }
-            or CloseReader { reader: r } or CloseWriter { writer: w } or CloseFuture { future: f }
+        b"clone" => clone_line(words)
+        b"close" => close_line(words)
         b"consume" => Consume(Plain) { reader: r, count: N }
-        b"ctlin" => ControlIn { target: X; setup: CTL; length: CONTROL_N, timeout: TIME; steps }
-        b"ctlout" => ControlOut { target: X; setup: CTL; bytes: CONTROL_BYTES, timeout: TIME; steps }
+        b"ctlin" => ctlin_line(alloc, words)
+        b"ctlout" => ctlout_line(alloc, words)
     }
 }
 
@@ -58,13 +70,15 @@ fn line_d(alloc: Global, name: &[u8], words: &[&[u8]]) -> Result<Item, LineError
 {
     rows! {
         alloc, name, words;
-        b"deny" => Denied { path: PATH, name: NAME, errno: ERRNO }
+        b"deny" => deny_line(alloc, words)
         b"descriptors" => Descriptors { device: d }
         b"detach" => DetachDriver { device: d, number: B }
         b"detachclaim" => DetachAndClaim { device: d, number: B, interface: i }
         b"devdesc" => DeviceDescriptor { device: d }
-        b"device" => Device { device: k, bus: B, address: B, speed: B, configuration: B, descriptors: BYTES }
+        b"device" => device_line(alloc, words)
         b"driver" => Driver { device: k, number: B }
+        b"dsubmitin" => dsubmitin_line(words)
+        b"dsubmitout" => dsubmitout_line(alloc, words)
     }
 }
 
@@ -78,7 +92,7 @@ fn line_e(alloc: Global, name: &[u8], words: &[&[u8]]) -> Result<Item, LineError
         alloc, name, words;
         b"endmsg" => ConsumeEnd { reader: r }
         b"endpoint" => Endpoint { endpoint: e, interface: i, address: HH, kind: KIND }
-        b"entry" => Entry { name: NAME, path: PATH }
+        b"entry" => entry_line(alloc, words)
     }
 }
 
@@ -91,10 +105,10 @@ fn line_f(alloc: Global, name: &[u8], words: &[&[u8]]) -> Result<Item, LineError
     rows! {
         alloc, name, words;
         b"fill" => FillBuf(Plain) { reader: r; steps }
-        b"fin" => StartControlIn { future: f, target: X; setup: CTL; length: CONTROL_N, timeout: TIME }
+        b"fin" => fin_line(alloc, words)
         b"flush" => Flush { writer: w; steps }
         b"flushend" => FlushEnd { writer: w; steps }
-        b"fout" => StartControlOut { future: f, target: X; setup: CTL; bytes: CONTROL_BYTES, timeout: TIME }
+        b"fout" => fout_line(alloc, words)
         b"fpoll" => PollFuture { future: f }
         b"fwait" => WaitFuture { future: f; steps }
     }
@@ -109,8 +123,8 @@ fn line_gh(alloc: Global, name: &[u8], words: &[&[u8]]) -> Result<Item, LineErro
     rows! {
         alloc, name, words;
         b"getalt" => GetAltSetting { interface: i }
-        b"getdesc" => GetDescriptor { device: d, descriptor_type: B, index: B, language: HHHH, timeout: TIME; steps }
-        b"halt" => ClearHalt { endpoint: e }
+        b"getdesc" => getdesc_line(alloc, words)
+        b"halt" => halt_line(words)
         b"hotplug" => Hotplug {}
     }
 }
@@ -124,7 +138,7 @@ fn line_i(alloc: Global, name: &[u8], words: &[&[u8]]) -> Result<Item, LineError
     rows! {
         alloc, name, words;
         b"ifdesc" => InterfaceDescriptor { interface: i }
-        b"inner" => IntoInner { endpoint: e, reader: r } or WriterIntoInner { endpoint: e, writer: w }
+        b"inner" => inner_line(words)
         b"isend" => IsEnd { reader: r }
     }
 }
@@ -138,9 +152,9 @@ fn line_lm(alloc: Global, name: &[u8], words: &[&[u8]]) -> Result<Item, LineErro
     rows! {
         alloc, name, words;
         b"langs" => SupportedLanguages { device: d, timeout: TIME; steps }
-        b"link" => Link { path: PATH, name: NAME, target: TEXT }
+        b"link" => link_line(alloc, words)
         b"list" => List {}
-        b"match" => Match { path: PATH, selector: SEL }
+        b"match" => match_line(alloc, words)
     }
 }
 
@@ -153,9 +167,9 @@ fn line_no(alloc: Global, name: &[u8], words: &[&[u8]]) -> Result<Item, LineErro
     rows! {
         alloc, name, words;
         b"now" => Now {}
-        b"num" => SetNumTransfers { reader: r, count: COUNT } or SetWriterTransfers { writer: w, count: COUNT }
-        b"open" => Open { device: d, bus: B, address: B }
-        b"openpath" => OpenPath { device: d, path: PATH }
+        b"num" => num_line(words)
+        b"open" => open_line(words)
+        b"openpath" => openpath_line(alloc, words)
     }
 }
 
@@ -176,7 +190,7 @@ fn line_p(alloc: Global, name: &[u8], words: &[&[u8]]) -> Result<Item, LineError
         b"pollsfill" => PollFillBuf(UntilShort) { reader: r }
         b"pollsread" => PollRead(UntilShort) { reader: r, length: R }
         b"pollwrite" => PollWrite { writer: w, bytes: BYTES }
-        b"probe" => Probe { path: PATH }
+        b"probe" => probe_line(alloc, words)
     }
 }
 
@@ -192,7 +206,7 @@ fn line_r(alloc: Global, name: &[u8], words: &[&[u8]]) -> Result<Item, LineError
         b"reader" => Reader { reader: r, endpoint: e, transfer_size: N }
         b"release" => Release { interface: i }
         b"reset" => Reset { device: d }
-        b"root" => Root { errno: ERRNO }
+        b"root" => root_line(words)
     }
 }
 
@@ -209,7 +223,7 @@ fn line_s(alloc: Global, name: &[u8], words: &[&[u8]]) -> Result<Item, LineError
         b"sfill" => FillBuf(UntilShort) { reader: r; steps }
         b"speed" => Speed { device: d }
         b"sread" => Read(UntilShort) { reader: r, length: R; steps }
-        b"string" => StringDescriptor { device: d, index: INDEX, language: HHHH, timeout: TIME; steps }
+        b"string" => string_line(alloc, words)
         b"submitin" => SubmitIn { endpoint: e, length: N }
         b"submitout" => SubmitOut { endpoint: e, bytes: BYTES }
     }
@@ -223,8 +237,8 @@ fn line_tu(alloc: Global, name: &[u8], words: &[&[u8]]) -> Result<Item, LineErro
 {
     rows! {
         alloc, name, words;
-        b"timeout" => SetReadTimeout { reader: r, timeout: TIME } or SetWriteTimeout { writer: w, timeout: TIME }
-        b"uevent" => Uevent { groups: T, bytes: VALUE }
+        b"timeout" => timeout_line(words)
+        b"uevent" => uevent_line(alloc, words)
     }
 }
 
@@ -238,7 +252,7 @@ fn line_w(alloc: Global, name: &[u8], words: &[&[u8]]) -> Result<Item, LineError
         alloc, name, words;
         b"wait" => Wait { endpoint: e, timeout: TIME; steps }
         b"wend" => SubmitEnd { writer: w }
-        b"write" => Write { writer: w, bytes: BYTES; steps }
+        b"write" => write_line(alloc, words)
         b"writer" => Writer { writer: w, endpoint: e, transfer_size: N }
         b"wsubmit" => Submit { writer: w }
     }
@@ -253,7 +267,7 @@ fn line_x(alloc: Global, name: &[u8], words: &[&[u8]]) -> Result<Item, LineError
     rows! {
         alloc, name, words;
         b"xferin" => TransferIn { endpoint: e, length: N, timeout: TIME; steps }
-        b"xferout" => TransferOut { endpoint: e, bytes: BYTES, timeout: TIME; steps }
+        b"xferout" => xferout_line(alloc, words)
     }
 }
 

@@ -65,12 +65,12 @@ impl Item {
             Open DeviceDescriptor Descriptors CloneDevice CloseDevice ActiveConfiguration Speed
             SetConfiguration Reset DetachDriver AttachDriver Claim DetachAndClaim
             CloneInterface CloseInterface SetAltSetting GetAltSetting InterfaceDescriptor Release
-            Endpoint SubmitIn SubmitOut Pending Poll Wait TransferIn TransferOut Cancel ClearHalt
+            Endpoint SubmitIn SubmitOut SubmitInWithDeadline SubmitOutWithDeadline Pending Poll Wait TransferIn TransferOut Cancel ClearHalt
             CloseEndpoint => copied_device_call;
             ControlIn ControlOut GetDescriptor SupportedLanguages StringDescriptor
             StartControlIn StartControlOut PollFuture WaitFuture CloseFuture
             => copied_control_call;
-            Reader IntoInner SetNumTransfers SetReadTimeout CancelReader CloseReader
+            Reader IntoInner SetNumTransfers SetReadTimeout CancelReader ClearReaderHalt CloseReader
             Read PollRead FillBuf PollFillBuf Consume IsEnd ConsumeEnd => copied_reader_call;
             Writer WriterIntoInner SetWriterTransfers SetWriteTimeout CloseWriter
             Write PollWrite Submit SubmitEnd Flush PollFlush FlushEnd PollFlushEnd
@@ -170,6 +170,8 @@ impl Item {
             self;
             SubmitIn { endpoint, length }
             SubmitOut { endpoint; bytes }
+            SubmitInWithDeadline { endpoint, length, timeout }
+            SubmitOutWithDeadline { endpoint, timeout; bytes }
             Pending { endpoint }
             Poll { endpoint }
             Wait { endpoint, timeout; steps }
@@ -212,6 +214,7 @@ impl Item {
             SetNumTransfers { reader, count }
             SetReadTimeout { reader, timeout }
             CancelReader { reader }
+            ClearReaderHalt { reader }
             CloseReader { reader }
             _ => unreachable!()
         }

@@ -202,6 +202,18 @@ pub enum Item {
         endpoint: Name,
         bytes: Data,
     },
+    /// `dsubmitin e N TIME`: submits a transfer that wants this many bytes, with a deadline.
+    SubmitInWithDeadline {
+        endpoint: Name,
+        length: Length,
+        timeout: Timeout,
+    },
+    /// `dsubmitout e BYTES TIME`: submits a transfer of these bytes, with a deadline.
+    SubmitOutWithDeadline {
+        endpoint: Name,
+        bytes: Data,
+        timeout: Timeout,
+    },
     /// `pending e`: asks how many transfers are pending.
     Pending {
         endpoint: Name,
@@ -271,6 +283,11 @@ pub enum Item {
     /// `cancel r`: cancels the pending transfers of the reader, and keeps none pending from then
     /// on.
     CancelReader {
+        reader: Name,
+    },
+    /// `halt r`: clears the halt of the reader's endpoint, and the error that the reader kept.
+    /// USB 2.0, section 9.4.5.
+    ClearReaderHalt {
         reader: Name,
     },
     /// `close r`: closes the reader with its endpoint.

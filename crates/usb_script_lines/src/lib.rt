@@ -2,11 +2,16 @@
 #![tactic(auto)]
 
 mod by_letter;
+mod control_forms;
 mod copies;
+mod fields;
 mod form;
 mod item;
 mod line;
+mod other_forms;
 mod reading;
+mod several_forms;
+mod tree_forms;
 
 pub use item::Item;
 pub use line::read_line;
