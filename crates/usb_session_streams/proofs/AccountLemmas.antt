@@ -33,7 +33,7 @@ use Rattle.usb_device_host.proofs.WaitFrames.{went-waited, went-blocked, went-aw
 use Rattle.usb_device.specs.OwnerLaws.{KeepsOwned, KeepsClaims}
 use Rattle.usb_device.proofs.OwnerLaw.{claims_stay_owned}
 use Rattle.usb_device.proofs.OwnerLawTurns.{steps-owned}
-use Rattle.usb_session_streams.specs.Accounts.{TicketsAreCounted, HoldsOnly, KeepsAccounts, KeepsAccountsOf}
+use Rattle.usb_session_streams.specs.Accounts.{TicketsAreCounted, KeepsAccounts, KeepsAccountsOf}
 
 -- claims that stay owned
 pub owned-same : (h : HostState) → KeepsOwned h h
@@ -174,21 +174,21 @@ of-on a b c key now xs ys zs same line open_ first second =
     of-then a b c key xs ys zs first (subst (λ (k : ℕ). KeepsAccountsOf b c k ys zs) same (second at_b))
 
 -- one more ticket is pending
-entered-owned : (h : HostState) (e : EndpointState) (b : BufferState) → key_at h.endpoints e.key ≡ true → KeepsClaims h (entered host_calls h e b)
-entered-owned h e b open_ =
+entered-owned : (h : HostState) (e : EndpointState) (deadline : Option ℕ) (b : BufferState) → key_at h.endpoints e.key ≡ true → KeepsClaims h (entered host_calls h e deadline b)
+entered-owned h e deadline b open_ =
     let to = route_of e in
     let t = transfer_by to b in
-    cond_both (is_valid e b) (host_submitted h to t) (host_refused h to t 22) (KeepsClaims h)
-    (λ yes_. claims_stay_owned.submit h to t open_) (λ no_. claims_stay_owned.refuse h to t 22 open_)
+    cond_both (is_valid e b) (host_submitted h to deadline t) (host_refused h to t 22) (KeepsClaims h)
+    (λ yes_. claims_stay_owned.submit h to deadline t open_) (λ no_. claims_stay_owned.refuse h to t 22 open_)
 
-pub of-entered : (h : HostState) (e : EndpointState) (b : BufferState) → key_at h.endpoints e.key ≡ true → KeepsAccountsOf h (entered host_calls h e b) e.key e.pending (e.pending ++ length (tickets h.kernel.past) ∷ [])
-of-entered h e b open_ =
+pub of-entered : (h : HostState) (e : EndpointState) (deadline : Option ℕ) (b : BufferState) → key_at h.endpoints e.key ≡ true → KeepsAccountsOf h (entered host_calls h e deadline b) e.key e.pending (e.pending ++ length (tickets h.kernel.past) ∷ [])
+of-entered h e deadline b open_ =
     let n = length (tickets h.kernel.past) in
     record {
-      claims = (entered-owned h e b open_).kept;
-      count = counted-more h (entered host_calls h e b) (entered-count h e b);
-      others = λ t k apart own. elim (entered-held h e b t k own) [ inl new ↦ absurd (apart new.1) | inr old ↦ old ];
-      own = λ counted only t own. elim (entered-held h e b t e.key own) [
+      claims = (entered-owned h e deadline b open_).kept;
+      count = counted-more h (entered host_calls h e deadline b) (entered-count h e deadline b);
+      others = λ t k apart own. elim (entered-held h e deadline b t k own) [ inl new ↦ absurd (apart new.1) | inr old ↦ old ];
+      own = λ counted only t own. elim (entered-held h e deadline b t e.key own) [
         | inl new ↦ subst (λ (u : ℕ). Contains (e.pending ++ n ∷ []) u) (sym (new.0 ∙ counted)) (Contains-push e.pending n)
         | inr old ↦ Contains-append_left e.pending (n ∷ []) t (only t old)
       ];

@@ -1,5 +1,5 @@
 -- A framed reader goes on to follow its stream over calls until a short packet.
-use Rattle.std.proofs.Common.{◌∙◌, ◌≡◌, ℕ, zero, suc, ◌+◌, ◌-◌, ◌≤◌, arith, Bool, true, false, List, [], ◌∷◌, ◌++◌, length, take, drop, map, append-nil, append_assoc, Option, Some, Result, Ok, Err, refl, ap, sym, subst}
+use Rattle.std.proofs.Common.{◌∙◌, ◌≡◌, ℕ, zero, suc, ◌+◌, ◌-◌, ◌≤◌, arith, Bool, true, false, List, [], ◌∷◌, ◌++◌, length, take, drop, map, append-nil, append_assoc, Option, Some, None, Result, Ok, Err, refl, ap, sym, subst}
 use Rattle.std.specs.Prelude.{min}
 use Rattle.std.proofs.lemmas.Bool.{cond_both, leb-true, false≢true}
 use Rattle.usb_xfer.specs.BufferState.{BufferState}
@@ -8,6 +8,7 @@ use Rattle.usb_kernel.specs.declared.event.Event.{Event}
 use Rattle.usb_kernel.specs.Tickets.{tickets}
 use Rattle.usb_kernel.specs.Legal.{IsLawful}
 use Rattle.usb_kernel.specs.Extends.{Extends}
+use Rattle.usb_kernel.specs.Calls.{called}
 use Rattle.usb_kernel.specs.Submits.{submit_refusal, submit_or_refuse}
 use Rattle.usb_device_endpoint.specs.Routes.{submission_of}
 use Rattle.usb_kernel.specs.TransferCompletions.{transfer_completion}
@@ -15,7 +16,7 @@ use Rattle.usb_device_endpoint.specs.EndpointState.{EndpointState, route_of}
 use Rattle.usb_device_endpoint.specs.Submits.{is_valid, transfer_by, entered}
 use Rattle.usb_device_endpoint.specs.Waits.{waited}
 use Rattle.usb_device_host.specs.HostState.{HostState}
-use Rattle.usb_device_host.specs.HostCalls.{host_submitted, host_refused, host_calls}
+use Rattle.usb_device_host.specs.HostCalls.{host_submitted, host_refused, host_halt_result, host_calls}
 use Rattle.usb_device_host.specs.TicketEnds.{host_taken}
 use Rattle.usb_device_host.proofs.CountLemmas.{entered-count, waited-count, taken-count}
 use Rattle.usb_device_host.proofs.FollowLemmas.{adds-entered, on-waited, taken-past}
@@ -30,7 +31,8 @@ use Rattle.usb_io.proofs.FollowLemmas.{turns-ended}
 use Rattle.usb_io.proofs.ReadKeeps.{Keeps, fill-keeps, filled-keeps}
 use Rattle.usb_io.proofs.FillEnds.{fill-lends, fill-ends}
 use Rattle.usb_session_streams.specs.Numbers.{numbers_from}
-use Rattle.usb_session_streams.specs.ReaderCalls.{Fill, Read, Submit, given_by}
+use Rattle.usb_session_streams.specs.ReaderCalls.{Fill, Read, Submit, ClearHalt, halt_left, halt_came, given_by}
+use Rattle.usb_session_streams.proofs.Halted.{halted-follows, halted-tickets}
 use Rattle.usb_session_streams.specs.Framed.{ticket_count, GoesOnToFollow, KeepsToStream, FramedCallsFollow, EmptyCallsLeaveEnd}
 
 -- the journal before a lawful one's last events is lawful
@@ -44,19 +46,19 @@ lawful-before old new extends lawful = go extends.more (subst IsLawful extends.i
 -- the event of a submission
 record Entry (past new : List Event) (e : EndpointState) (b : BufferState) : Type 0 where
   refusal : Option ℕ
-  is : new ≡ submit_or_refuse (length (tickets past)) (submission_of (route_of e) b) refusal ∷ past
+  is : new ≡ submit_or_refuse (length (tickets past)) (submission_of (route_of e) None b) refusal ∷ past
 
-submitted-entry : (h : HostState) (e : EndpointState) (b : BufferState) → Entry h.kernel.past (host_submitted h (route_of e) (transfer_by (route_of e) b)).kernel.past e b
+submitted-entry : (h : HostState) (e : EndpointState) (b : BufferState) → Entry h.kernel.past (host_submitted h (route_of e) None (transfer_by (route_of e) b)).kernel.past e b
 unfolding host_submitted
-submitted-entry h e b = record { refusal = submit_refusal h.kernel.devices h.kernel.armed (submission_of (route_of e) b).device; is = refl }
+submitted-entry h e b = record { refusal = submit_refusal h.kernel.devices h.kernel.armed (submission_of (route_of e) None b).device; is = refl }
 
 refused-entry : (h : HostState) (e : EndpointState) (b : BufferState) → Entry h.kernel.past (host_refused h (route_of e) (transfer_by (route_of e) b) 22).kernel.past e b
 unfolding host_refused
 refused-entry h e b = record { refusal = Some 22; is = refl }
 
-entered-entry : (h : HostState) (e : EndpointState) (b : BufferState) → Entry h.kernel.past (entered host_calls h e b).kernel.past e b
+entered-entry : (h : HostState) (e : EndpointState) (b : BufferState) → Entry h.kernel.past (entered host_calls h e None b).kernel.past e b
 entered-entry h e b =
-    cond_both (is_valid e b) (host_submitted h (route_of e) (transfer_by (route_of e) b)) (host_refused h (route_of e) (transfer_by (route_of e) b) 22) (λ (g : HostState). Entry h.kernel.past g.kernel.past e b)
+    cond_both (is_valid e b) (host_submitted h (route_of e) None (transfer_by (route_of e) b)) (host_refused h (route_of e) (transfer_by (route_of e) b) 22) (λ (g : HostState). Entry h.kernel.past g.kernel.past e b)
     (λ yes_. submitted-entry h e b) (λ no_. refused-entry h e b)
 
 -- a reader follows its stream with a history that says the same
@@ -88,7 +90,7 @@ module _ (old : Reading HostState) (h : History) where
   goes-one : (w : Reading HostState) → Goes old w h → Goes old (submit_one host_calls w) h
   goes-one w g =
       let b = fresh_buffer w.reader.size in
-      let one = (entered-count w.bus w.reader.endpoint b).past in
+      let one = (entered-count w.bus w.reader.endpoint None b).past in
       let entry = entered-entry w.bus w.reader.endpoint b in
       let last : ticket_count old + g.more ≡ ticket_count w = sym g.count in
       record {
@@ -151,7 +153,7 @@ module _ (old : Reading HostState) (h : History) where
   goes-kept : (timeout : ℕ) → Keeps host_calls true timeout Lawfully
   goes-kept timeout = record {
     submission = λ w so_far lawful.
-        goes-one w (so_far (lawful-before w.bus.kernel.past (submit_one host_calls w).bus.kernel.past (adds-entered w.bus w.reader.endpoint (fresh_buffer w.reader.size)).goes.past lawful));
+        goes-one w (so_far (lawful-before w.bus.kernel.past (submit_one host_calls w).bus.kernel.past (adds-entered w.bus w.reader.endpoint None (fresh_buffer w.reader.size)).goes.past lawful));
     end = λ w goes so_far lawful. goes-off w goes (so_far lawful);
     wait = λ w front others was so_far lawful.
         goes-waited w front timeout (so_far (lawful-before w.bus.kernel.past (waited host_calls front timeout w.bus).kernel.past (on-waited w.bus front timeout).past lawful));
@@ -183,6 +185,19 @@ framed_fill_follows timeout w input lawful h f = none-follow w (fill_came host_c
 pub framed_submissions_follow : (goal : ℕ) (w : Reading HostState) → KeepsToStream w (filled_to host_calls goal w) []
 framed_submissions_follow goal w input lawful h f =
     none-follow w (filled_to host_calls goal w) h (filled-keeps host_calls true 0 (Lawfully w h) (goes-kept w h 0) goal w (λ here. goes-same w h input f) lawful)
+
+-- where a halt is cleared nothing is taken
+pub framed_halt_follows : (w : Reading HostState) → KeepsToStream w (halt_came w) []
+unfolding called
+framed_halt_follows w input lawful h f =
+    let answer = host_halt_result w.bus w.reader.endpoint.device w.reader.endpoint.address in
+    record {
+      taken = [];
+      came = halted-tickets w;
+      follows =
+          follows-as w.bus.kernel.past (halt_left answer w.reader) h (h.taken ++ []) (h.consumed ++ []) (append-nil h.taken) (append-nil h.consumed)
+          (halted-follows answer w.bus.kernel.past w.reader h f);
+    }
 
 -- they are handed over
 handed-follows : (most : ℕ) (a : Result (List ℕ) ReadFault) (old v : Reading HostState) (h : History) → ((bytes : List ℕ) → a ≡ Ok bytes → bytes ≡ v.reader.unread) → Goes old v h → GoesOnToFollow old (handed_over most a v).left h (given_by (handed_over most a v).answer)
@@ -238,6 +253,7 @@ framed_calls-follow (Fill false timeout) w is = absurd (false≢true is)
 framed_calls-follow (Read true timeout most) w is = framed_read_follows timeout most w
 framed_calls-follow (Read false timeout most) w is = absurd (false≢true is)
 framed_calls-follow (Submit goal) w is = framed_submissions_follow goal w
+framed_calls-follow ClearHalt w is = framed_halt_follows w
 
 pub empty_calls-leave_end : EmptyCallsLeaveEnd
 empty_calls-leave_end (Fill true timeout) w is asks none = empty_fill_leaves_end timeout w none
@@ -245,3 +261,4 @@ empty_calls-leave_end (Fill false timeout) w is asks none = absurd (false≢true
 empty_calls-leave_end (Read true timeout most) w is asks none = empty_read_leaves_end timeout most w (leb-true 1 most asks) none
 empty_calls-leave_end (Read false timeout most) w is asks none = absurd (false≢true is)
 empty_calls-leave_end (Submit goal) w is asks none = absurd (false≢true asks)
+empty_calls-leave_end ClearHalt w is asks none = absurd (false≢true asks)

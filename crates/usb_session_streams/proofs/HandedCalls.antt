@@ -14,7 +14,7 @@ use Rattle.usb_kernel.proofs.Extends.{completion-stays}
 use Rattle.usb_kernel.specs.TransferCompletions.{completion_of, transfer_completion}
 use Rattle.usb_device_endpoint.specs.Waits.{waited}
 use Rattle.usb_device_host.specs.HostState.{HostState}
-use Rattle.usb_device_host.specs.HostCalls.{host_calls}
+use Rattle.usb_device_host.specs.HostCalls.{host_halt_result, host_calls}
 use Rattle.usb_device_host.specs.TicketEnds.{host_taken}
 use Rattle.usb_device_host.proofs.CountLemmas.{waited-count, taken-count}
 use Rattle.usb_device_host.proofs.FollowLemmas.{adds-entered, on-waited, taken-past}
@@ -22,10 +22,11 @@ use Rattle.usb_io.specs.Readers.{no_bytes, bytes_in, fresh_buffer, with_taken}
 use Rattle.usb_io.specs.Reads.{Reading, reading, pending_of, submit_one, filled_to}
 use Rattle.usb_io.specs.Answers.{handed_over, fill_came, read_came}
 use Rattle.usb_io.specs.declared.fault.ReadFault.{ReadFault}
-use Rattle.usb_session_streams.specs.ReaderCalls.{Fill, Read, Submit, given_by}
+use Rattle.usb_session_streams.specs.ReaderCalls.{Fill, Read, Submit, ClearHalt, halt_came, given_by}
 use Rattle.usb_session_streams.specs.Handed.{completed_bytes, HandsOver, CallsHandOver}
 use Rattle.usb_io.proofs.ReadKeeps.{Keeps, turns-empty, fill-keeps, filled-keeps}
 use Rattle.usb_io.proofs.FillEnds.{fill-lends}
+use Rattle.usb_session_streams.proofs.Halted.{halted-unread, halted-tickets}
 use Rattle.usb_session_streams.proofs.TicketsCome.{TicketsCame, came-same, came-one, came-on}
 
 -- a ticket that has its completion
@@ -111,7 +112,7 @@ brings-taken old w front others c was empty come g =
 brings-kept : (us : Bool) (timeout : ℕ) (old : Reading HostState) → Keeps host_calls us timeout (Brings old)
 unfolding came-one came-on
 brings-kept us timeout old = record {
-  submission = λ w g. brings-later old w (submit_one host_calls w) g (came-one old w g.tickets) refl refl (adds-entered w.bus w.reader.endpoint (fresh_buffer w.reader.size)).goes.past;
+  submission = λ w g. brings-later old w (submit_one host_calls w) g (came-one old w g.tickets) refl refl (adds-entered w.bus w.reader.endpoint None (fresh_buffer w.reader.size)).goes.past;
   end = λ w goes g. record { tickets = record { taken = g.tickets.taken; more = g.tickets.more; same = g.tickets.same }; complete = g.complete; bytes = g.bytes };
   wait = λ w front others was g.
       let v : Reading HostState = reading (waited host_calls front timeout w.bus) w.reader in
@@ -144,8 +145,20 @@ pub submissions_hand_over : (goal : ℕ) (w : Reading HostState) → HandsOver w
 submissions_hand_over goal w =
     brings-over w (filled_to host_calls goal w) (filled-keeps host_calls false 0 (Brings w) (brings-kept false 0 w) goal w (brings-same w))
 
+-- where a halt is cleared none is taken, and what is unread stays
+pub halt_hands_over : (w : Reading HostState) → HandsOver w (halt_came w) []
+halt_hands_over w =
+    let answer = host_halt_result w.bus w.reader.endpoint.device w.reader.endpoint.address in
+    record {
+      taken = [];
+      tickets = halted-tickets w;
+      complete = All-nil (HasIts (halt_came w).bus.kernel.past);
+      bytes = append-nil w.reader.unread ∙ sym (halted-unread answer w.reader);
+    }
+
 -- so it is of each call
 pub calls-hand_over : CallsHandOver
 calls-hand_over (Fill us timeout) w = fill_hands_over us timeout w
 calls-hand_over (Read us timeout most) w = read_hands_over us timeout most w
 calls-hand_over (Submit goal) w = submissions_hand_over goal w
+calls-hand_over ClearHalt w = halt_hands_over w

@@ -1,5 +1,6 @@
 pub mod AccountLemmas
 pub mod LinesGoOn
+pub mod Halted
 pub mod ReadsGoOn
 pub mod TicketsCome
 pub mod FramedCalls

@@ -1,33 +1,37 @@
 -- Calls on a reader take steps from the front of the line, and keep what is open.
-use Rattle.std.proofs.Common.{◌∙◌, ◌≡◌, ℕ, Bool, List, [], ◌∷◌, Result, Ok, Err, refl, ap, subst, sym, false}
+use Rattle.std.proofs.Common.{◌∙◌, ◌≡◌, ℕ, Bool, List, [], ◌∷◌, None, Result, Ok, Err, refl, ap, subst, sym, false}
 use Rattle.std.specs.Prelude.{IfOk, IfErr, OnOk, OnErr}
 use Rattle.std.specs.Borrow.{Bor}
 use Rattle.usb_desc.specs.declared.error.Fail.{Fail}
 use Rattle.usb_desc.specs.declared.error.NoMemory.{NoMemory}
+use Rattle.usb_error.specs.ErrorState.{ErrorState}
+use Rattle.usb_error.specs.Errors.{clear_halt_error}
+use Rattle.usb_kernel.specs.Calls.{called}
 use Rattle.usb_kernel.proofs.Extends.{extends-same, extends-trans}
 use Rattle.usb_xfer.specs.declared.transfer.Completion.{Completion}
+use Rattle.usb_device_endpoint.specs.CallErrors.{or_error}
 use Rattle.usb_device_endpoint.specs.EndpointState.{EndpointState}
 use Rattle.usb_device_endpoint.specs.Submits.{entered}
 use Rattle.usb_device_endpoint.specs.Waits.{waited}
 use Rattle.usb_device_host.specs.HostState.{HostState}
-use Rattle.usb_device_host.specs.HostCalls.{host_calls}
-use Rattle.usb_device_host.specs.HostFrames.{LineGoesOn}
+use Rattle.usb_device_host.specs.HostCalls.{host_halt_result, host_halt_cleared, host_calls}
 use Rattle.usb_device_host.specs.TicketEnds.{host_taken}
 use Rattle.usb_device_host.proofs.CallFrames.{keeps-taken}
 use Rattle.usb_device_host.proofs.CountLemmas.{entered-count, waited-count, taken-count}
 use Rattle.usb_device_host.proofs.FollowLemmas.{adds-entered, taken-past}
 use Rattle.usb_device_host.proofs.WaitFrames.{line-keeps, line-trans, went-waited}
-use Rattle.usb_io.specs.Readers.{ReaderState, fresh_buffer, with_taken}
+use Rattle.usb_io.specs.Readers.{ReaderState, fresh_buffer, with_taken, without_error}
 use Rattle.usb_io.specs.Reads.{Reading, reading, KeepsSettings, pending_of, ended_off, submit_one, filled_to, FilledShort}
 use Rattle.usb_io.specs.Answered.{answered}
 use Rattle.usb_io.specs.Answers.{fill_came, read_came, ReadFails}
 use Rattle.usb_io.specs.Lent.{Filled}
 use Rattle.usb_io.specs.declared.fault.ReadFault.{ReadFault}
 use Rattle.usb_io.proofs.ReadKeeps.{Keeps, KeepsRead, fill-keeps, read-keeps, filled-keeps, filled_short-keeps, read_answer-keeps, fill_answer-keeps}
-use Rattle.usb_session_streams.specs.ReaderCalls.{Fill, Read, Submit, ReaderGoesOn, ReaderCallsGoOn}
+use Rattle.usb_session_streams.specs.ReaderCalls.{Fill, Read, Submit, ClearHalt, halt_left, halt_came, ReaderGoesOn, ReaderCallsGoOn}
 use Rattle.usb_session_streams.specs.Accounts.{TicketsAreCounted, KeepsAccountsOf}
-use Rattle.usb_session_streams.proofs.AccountLemmas.{counted-kept, counted-more, accounts-of, accounts-waited, of-same, of-on, of-entered, of-taken}
-use Rattle.usb_session_streams.proofs.LinesGoOn.{line-same, line-one}
+use Rattle.usb_session_streams.proofs.AccountLemmas.{counted-kept, counted-more, accounts-of, accounts-waited, accounts-halt, of-same, of-on, of-entered, of-taken}
+use Rattle.usb_session_streams.proofs.LinesGoOn.{line-same, line-one, line-halt}
+use Rattle.usb_session_streams.proofs.Halted.{halted-rest, halted-settings}
 
 settings-same : (r : ReaderState) → KeepsSettings r r
 settings-same r = record { n = refl; size = refl; timeout = refl }
@@ -57,10 +61,10 @@ call-one w =
     let b = fresh_buffer w.reader.size in
     record {
       line = line-one w;
-      past = (adds-entered w.bus w.reader.endpoint b).goes.past;
+      past = (adds-entered w.bus w.reader.endpoint None b).goes.past;
       endpoint = refl;
       settings = record { n = refl; size = refl; timeout = refl };
-      accounts = λ open_. of-entered w.bus w.reader.endpoint b open_;
+      accounts = λ open_. of-entered w.bus w.reader.endpoint None b open_;
     }
 
 call-waited : (w : Reading HostState) (front timeout : ℕ) → ReaderGoesOn w (reading (waited host_calls front timeout w.bus) w.reader)
@@ -122,10 +126,34 @@ read_goes_on us timeout most w = read-keeps host_calls us timeout (ReaderGoesOn 
 pub submissions_go_on : (goal : ℕ) (w : Reading HostState) → ReaderGoesOn w (filled_to host_calls goal w)
 submissions_go_on goal w = filled-keeps host_calls false 0 (ReaderGoesOn w) (call-kept false 0 w) goal w (call-same w)
 
+-- the clearing of a halt
+call-halted : (w : Reading HostState) (r : ReaderState) → r.endpoint ≡ w.reader.endpoint → KeepsSettings w.reader r → ReaderGoesOn w (reading (host_halt_cleared w.bus w.reader.endpoint.device w.reader.endpoint.address) r)
+unfolding called
+call-halted w r same settings =
+    let device = w.reader.endpoint.device in
+    let address = w.reader.endpoint.address in
+    let key = w.reader.endpoint.key in
+    let host = host_halt_cleared w.bus device address in
+    record {
+      line = line-halt w.bus device address;
+      past = extends-same w.bus.kernel.past;
+      endpoint = same ∙ ap (λ (ts : List ℕ). record w.reader.endpoint { pending = ts }) (sym (ap (λ (e : EndpointState). e.pending) same));
+      settings = settings;
+      accounts = λ open_.
+          subst (λ (ts : List ℕ). KeepsAccountsOf w.bus host key (pending_of w) ts) (sym (ap (λ (e : EndpointState). e.pending) same))
+          (accounts-of w.bus host key (pending_of w) (accounts-halt w.bus device address));
+    }
+
+pub halt_goes_on : (w : Reading HostState) → ReaderGoesOn w (halt_came w)
+halt_goes_on w =
+    let answer = host_halt_result w.bus w.reader.endpoint.device w.reader.endpoint.address in
+    call-halted w (halt_left answer w.reader) (halted-rest answer w.reader) (halted-settings answer w.reader)
+
 pub reader_calls-go_on : ReaderCallsGoOn
 reader_calls-go_on (Fill us timeout) w = fill_goes_on us timeout w
 reader_calls-go_on (Read us timeout most) w = read_goes_on us timeout most w
 reader_calls-go_on (Submit goal) w = submissions_go_on goal w
+reader_calls-go_on ClearHalt w = halt_goes_on w
 
 -- so it is whatever a call answered (a poll is a wait of no time)
 module _ (us : Bool) (old new : Reading HostState) where
@@ -141,13 +169,29 @@ pub num-goes : (r : Result Unit NoMemory) (goal : ℕ) (old new : Reading HostSt
 num-goes (Ok u) goal old new ok err = subst (ReaderGoesOn old) (sym ok) (submissions_go_on goal old)
 num-goes (Err e) goal old new ok err = filled_short-keeps host_calls false 0 (ReaderGoesOn old) (call-kept false 0 old) goal old new err (call-same old)
 
+-- and where a halt was cleared
+halted-by : (answer : Result (Unit {0}) ℕ) (r : Result Unit ErrorState) (x y : ReaderState) → r ≡ or_error clear_halt_error answer → OnOk r (y ≡ without_error x) → OnErr r (y ≡ x) → y ≡ halt_left answer x
+halted-by (Ok done) r x y is ok err = subst (λ (r : Result Unit ErrorState). OnOk r (y ≡ without_error x)) is ok
+halted-by (Err errno) r x y is ok err = subst (λ (r : Result Unit ErrorState). OnErr r (y ≡ x)) is err
+
+pub halt-came : (r : Result Unit ErrorState) (old new : Reading HostState) → r ≡ or_error clear_halt_error (host_halt_result old.bus old.reader.endpoint.device old.reader.endpoint.address) → new.bus ≡ host_halt_cleared old.bus old.reader.endpoint.device old.reader.endpoint.address
+    → OnOk r (new.reader ≡ without_error old.reader) → OnErr r (new.reader ≡ old.reader) → new ≡ halt_came old
+halt-came r old new is bus ok err =
+    let answer = host_halt_result old.bus old.reader.endpoint.device old.reader.endpoint.address in
+    ap (λ (h : HostState). reading h new.reader) bus
+    ∙ ap (λ (x : ReaderState). reading (host_halt_cleared old.bus old.reader.endpoint.device old.reader.endpoint.address) x) (halted-by answer r old.reader new.reader is ok err)
+
+pub halt-goes : (r : Result Unit ErrorState) (old new : Reading HostState) → r ≡ or_error clear_halt_error (host_halt_result old.bus old.reader.endpoint.device old.reader.endpoint.address) → new.bus ≡ host_halt_cleared old.bus old.reader.endpoint.device old.reader.endpoint.address
+    → OnOk r (new.reader ≡ without_error old.reader) → OnErr r (new.reader ≡ old.reader) → ReaderGoesOn old new
+halt-goes r old new is bus ok err = subst (ReaderGoesOn old) (sym (halt-came r old new is bus ok err)) (halt_goes_on old)
+
 -- a host has as many tickets as its journal
 abbrev pub IsCounted : Reading HostState → Type 0
 IsCounted w = TicketsAreCounted w.bus
 
 count-kept : (us : Bool) (timeout : ℕ) → Keeps host_calls us timeout IsCounted
 count-kept us timeout = record {
-  submission = λ w so_far. let b = fresh_buffer w.reader.size in counted-more w.bus (entered host_calls w.bus w.reader.endpoint b) (entered-count w.bus w.reader.endpoint b) so_far;
+  submission = λ w so_far. let b = fresh_buffer w.reader.size in counted-more w.bus (entered host_calls w.bus w.reader.endpoint None b) (entered-count w.bus w.reader.endpoint None b) so_far;
   end = λ w goes so_far. so_far;
   wait = λ w front others was so_far. counted-kept w.bus (waited host_calls front timeout w.bus) (waited-count w.bus front timeout) so_far;
   taking = λ w front others c was goes come so_far. counted-kept w.bus (host_taken w.bus front) (taken-count w.bus front) so_far;

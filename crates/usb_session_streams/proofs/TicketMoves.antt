@@ -184,19 +184,19 @@ moves-taken w front others c was come =
 -- a submission: what came to the journal
 record Entry (past new : List Event) (e : EndpointState) (b : BufferState) : Type 0 where
   refusal : Option ℕ
-  is : new ≡ submit_or_refuse (length (tickets past)) (submission_of (route_of e) b) refusal ∷ past
+  is : new ≡ submit_or_refuse (length (tickets past)) (submission_of (route_of e) None b) refusal ∷ past
 
-submitted-entry : (h : HostState) (e : EndpointState) (b : BufferState) → Entry h.kernel.past (host_submitted h (route_of e) (transfer_by (route_of e) b)).kernel.past e b
+submitted-entry : (h : HostState) (e : EndpointState) (b : BufferState) → Entry h.kernel.past (host_submitted h (route_of e) None (transfer_by (route_of e) b)).kernel.past e b
 unfolding host_submitted
-submitted-entry h e b = record { refusal = submit_refusal h.kernel.devices h.kernel.armed (submission_of (route_of e) b).device; is = refl }
+submitted-entry h e b = record { refusal = submit_refusal h.kernel.devices h.kernel.armed (submission_of (route_of e) None b).device; is = refl }
 
 refused-entry : (h : HostState) (e : EndpointState) (b : BufferState) → Entry h.kernel.past (host_refused h (route_of e) (transfer_by (route_of e) b) 22).kernel.past e b
 unfolding host_refused
 refused-entry h e b = record { refusal = Some 22; is = refl }
 
-entered-entry : (h : HostState) (e : EndpointState) (b : BufferState) → Entry h.kernel.past (entered host_calls h e b).kernel.past e b
+entered-entry : (h : HostState) (e : EndpointState) (b : BufferState) → Entry h.kernel.past (entered host_calls h e None b).kernel.past e b
 entered-entry h e b =
-    cond_both (is_valid e b) (host_submitted h (route_of e) (transfer_by (route_of e) b)) (host_refused h (route_of e) (transfer_by (route_of e) b) 22) (λ (g : HostState). Entry h.kernel.past g.kernel.past e b)
+    cond_both (is_valid e b) (host_submitted h (route_of e) None (transfer_by (route_of e) b)) (host_refused h (route_of e) (transfer_by (route_of e) b) 22) (λ (g : HostState). Entry h.kernel.past g.kernel.past e b)
     (λ yes_. submitted-entry h e b) (λ no_. refused-entry h e b)
 
 -- its ticket
@@ -204,7 +204,7 @@ own-body : (address : ℕ) (b : BufferState) → address < 128 → body_of addre
 own-body address b output = rw (lt-leb 128 address output) refl
 
 own-ticket : (past : List Event) (e : EndpointState) (b : BufferState) (refusal : Option ℕ) → e.address < 128
-    → Carries (submit_or_refuse (length (tickets past)) (submission_of (route_of e) b) refusal ∷ past) e.device e.address e.maximum (length (tickets past)) b.bytes
+    → Carries (submit_or_refuse (length (tickets past)) (submission_of (route_of e) None b) refusal ∷ past) e.device e.address e.maximum (length (tickets past)) b.bytes
 own-ticket past e b None output = record { s = _; at = slice_get-last (tickets past) _; device = refl; endpoint = refl; maximum = refl; body = own-body e.address b output }
 own-ticket past e b (Some errno) output = record { s = _; at = slice_get-last (tickets past) _; device = refl; endpoint = refl; maximum = refl; body = own-body e.address b output }
 
@@ -216,10 +216,10 @@ all-below past d e m (t ∷ ts) (b ∷ bs) all = (slice_get_within (tickets past
 
 -- and what the handle carries then
 carries-entered : (past : List Event) (e : EndpointState) (b : BufferState) (refusal : Option ℕ) → e.address < 128 → (before : List ℕ) (transfers : List (List ℕ)) → HandleCarries past e before transfers
-    → HandleCarries (submit_or_refuse (length (tickets past)) (submission_of (route_of e) b) refusal ∷ past) (record e { pending = e.pending ++ length (tickets past) ∷ [] }) before (transfers ++ b.bytes ∷ [])
+    → HandleCarries (submit_or_refuse (length (tickets past)) (submission_of (route_of e) None b) refusal ∷ past) (record e { pending = e.pending ++ length (tickets past) ∷ [] }) before (transfers ++ b.bytes ∷ [])
 carries-entered past e b refusal output before transfers carry =
     let t = length (tickets past) in
-    let new : List Event = submit_or_refuse t (submission_of (route_of e) b) refusal ∷ past in
+    let new : List Event = submit_or_refuse t (submission_of (route_of e) None b) refusal ∷ past in
     let here = all-later past new e.device e.address e.maximum (before ++ e.pending) transfers (extends-event past _) carry.0 in
     let pushed = all-push new e.device e.address e.maximum (before ++ e.pending) transfers t b.bytes here (own-ticket past e b refusal output) in
     let up = ascending-push (before ++ e.pending) t carry.1 (all-below past e.device e.address e.maximum (before ++ e.pending) transfers carry.0) in
@@ -231,7 +231,7 @@ moves-sent w b output =
     let e = w.writer.endpoint in
     let v = send host_calls b w in
     let entry = entered-entry w.bus e b in
-    let one = (entered-count w.bus e b).past in
+    let one = (entered-count w.bus e None b).past in
     record {
       goes = call-send w b;
       count = omega (arith, one);

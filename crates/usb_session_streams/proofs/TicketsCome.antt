@@ -1,5 +1,5 @@
 -- Which tickets a reader has pending behind a call at a host.
-use Rattle.std.proofs.Common.{◌≡◌, ℕ, ◌≤◌, ◌+◌, ◌-◌, suc, arith, Bool, false, List, [], ◌∷◌, ◌++◌, length, refl, ap, sym, ◌∙◌}
+use Rattle.std.proofs.Common.{◌≡◌, ℕ, ◌≤◌, ◌+◌, ◌-◌, suc, arith, Bool, false, List, [], ◌∷◌, ◌++◌, length, None, refl, ap, sym, ◌∙◌}
 use Rattle.std.proofs.lemmas.List.{append_assoc, append-nil}
 use Rattle.usb_kernel.specs.Tickets.{tickets}
 use Rattle.usb_device_endpoint.specs.Waits.{waited}
@@ -32,7 +32,7 @@ came-same w =
 -- a submission appends the next ticket
 unfoldable pub came-one : (old w : Reading HostState) → TicketsCame old w → TicketsCame old (submit_one host_calls w)
 came-one old w came =
-    let one = (entered-count w.bus w.reader.endpoint (fresh_buffer w.reader.size)).past in
+    let one = (entered-count w.bus w.reader.endpoint None (fresh_buffer w.reader.size)).past in
     let more = came.more in
     let next : count_of (submit_one host_calls w) - count_of old ≡ suc (count_of w - count_of old) = omega (arith, one, more) in
     let last : count_of old + (count_of w - count_of old) ≡ count_of w = omega (arith, more) in

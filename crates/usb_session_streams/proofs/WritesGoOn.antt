@@ -1,5 +1,5 @@
 -- Calls on a writer take steps from the front of the line, and keep what is open.
-use Rattle.std.proofs.Common.{◌∙◌, ◌≡◌, ℕ, Bool, true, false, List, [], ◌∷◌, Option, refl, ap, sym, subst}
+use Rattle.std.proofs.Common.{◌∙◌, ◌≡◌, ℕ, Bool, true, false, List, [], ◌∷◌, Option, None, refl, ap, sym, subst}
 use Rattle.usb_xfer.specs.BufferState.{BufferState}
 use Rattle.usb_xfer.specs.declared.transfer.Completion.{Completion}
 use Rattle.usb_kernel.proofs.Extends.{extends-same, extends-trans}
@@ -64,17 +64,17 @@ call-set w buffer begun =
 pub call-not_begun : (w : Writing HostState) → WriterGoesOn w (not_begun w)
 call-not_begun w = call-set w w.writer.buffer false
 
-keeps-handed : (h : HostState) (e : EndpointState) (b : BufferState) (valid : Bool) → KeepsOpen h (handed_over host_calls h (route_of e) (transfer_by (route_of e) b) valid)
-keeps-handed h e b true = keeps-submitted h (route_of e) (transfer_by (route_of e) b)
+keeps-handed : (h : HostState) (e : EndpointState) (b : BufferState) (valid : Bool) → KeepsOpen h (handed_over host_calls h (route_of e) None (transfer_by (route_of e) b) valid)
+keeps-handed h e b true = keeps-submitted h (route_of e) None (transfer_by (route_of e) b)
 keeps-handed h e b false = keeps-refused h (route_of e) (transfer_by (route_of e) b) 22
 
 pub call-send : (w : Writing HostState) (b : BufferState) → WriterGoesOn w (send host_calls b w)
 call-send w b =
     record {
-      line = line-keeps w.bus (entered host_calls w.bus w.writer.endpoint b) (keeps-handed w.bus w.writer.endpoint b (is_valid w.writer.endpoint b));
-      past = (adds-entered w.bus w.writer.endpoint b).goes.past;
+      line = line-keeps w.bus (entered host_calls w.bus w.writer.endpoint None b) (keeps-handed w.bus w.writer.endpoint b (is_valid w.writer.endpoint b));
+      past = (adds-entered w.bus w.writer.endpoint None b).goes.past;
       settings = record { n = refl; size = refl; timeout = refl; endpoint = refl };
-      accounts = λ open_. of-entered w.bus w.writer.endpoint b open_;
+      accounts = λ open_. of-entered w.bus w.writer.endpoint None b open_;
     }
 
 pub call-waited : (w : Writing HostState) (front timeout : ℕ) → WriterGoesOn w (writing (waited host_calls front timeout w.bus) w.writer)
@@ -141,7 +141,7 @@ IsCounted w = TicketsAreCounted w.bus
 count-kept : Keeps IsCounted
 count-kept = record {
   set = λ w buffer begun so_far. so_far;
-  submission = λ w b so_far. counted-more w.bus (entered host_calls w.bus w.writer.endpoint b) (entered-count w.bus w.writer.endpoint b) so_far;
+  submission = λ w b so_far. counted-more w.bus (entered host_calls w.bus w.writer.endpoint None b) (entered-count w.bus w.writer.endpoint None b) so_far;
   wait = λ w timeout front others was so_far. counted-kept w.bus (waited host_calls front timeout w.bus) (waited-count w.bus front timeout) so_far;
   taking = λ w front others c was come so_far. counted-kept w.bus (host_taken w.bus front) (taken-count w.bus front) so_far;
 }
