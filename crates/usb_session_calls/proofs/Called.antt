@@ -12,9 +12,8 @@ use Rattle.usb_device_host.specs.HostBus.{bus_of, key_at}
 use Rattle.usb_device_host.specs.HostFrames.{ClaimsGoOn}
 use Rattle.usb_device.specs.Futures.{FutureState, StandsFuture}
 use Rattle.usb_device_ledger.proofs.DeviceLemmas.{KeepsCounts, counts-there, opened-counts}
-use Rattle.usb_device.proofs.DeviceLemmas.{counts-stands}
-use Rattle.usb_device.proofs.HeldDevices.{held-goes}
-use Rattle.usb_device.proofs.StandLemmas.{StandsInterface-same}
+use Rattle.usb_device_host.proofs.DeviceLemmas.{counts-stands}
+use Rattle.usb_device_host.proofs.HeldDevices.{held-goes}
 use Rattle.usb_session_streams.specs.Accounts.{KeepsAccounts, KeepsAccountsOf}
 use Rattle.usb_session_calls.specs.Names.{named, change_named, freed, set_name}
 use Rattle.usb_io.specs.Readers.{ReaderState}
@@ -30,6 +29,7 @@ use Rattle.usb_session_calls.proofs.NamedKeys.{OpensNone, named-goes, named-put,
 use Rattle.usb_session_calls.proofs.NamedTickets.{tickets-goes, tickets-put, tickets-gone}
 use Rattle.usb_session_calls.proofs.FutureLemmas.{control_with, future-goes}
 use Rattle.usb_session_calls.proofs.NameLemmas.{named-freed, named-freed_other, map-freed, map-set, map-change_named}
+use Rattle.usb_device_host.proofs.LeftDevices.{StandsInterface-same}
 
 -- what is kept between lines
 pub record KeepsSession (old new : HostState) : Type 0 where

@@ -19,7 +19,7 @@ use Rattle.usb_device_host.specs.HostTurns.{host_rest}
 use Rattle.usb_device_host.specs.CallErrors.{Leaves}
 use Rattle.usb_device_host.proofs.ClaimFrames.{goes-trans}
 use Rattle.usb_device_host.proofs.WaitFrames.{went-rest, rest-steps}
-use Rattle.usb_device.specs.HandleStates.{InterfaceState, StandsDevice, StandsInterface}
+use Rattle.usb_device_host.specs.HandleStates.{InterfaceState, StandsDevice, StandsInterface}
 use Rattle.usb_device.specs.ControlCalls as calls
 use Rattle.usb_device.specs.DescriptorCalls.{LeavesEither}
 use Rattle.usb_script_words.specs.declared.control.ControlTarget.{ControlTarget}

@@ -10,10 +10,10 @@ use Rattle.usb_device_ledger.specs.OwnerRows.{one_if}
 use Rattle.usb_device_ledger.proofs.ListLemmas.{count-some}
 use Rattle.usb_device_ledger.specs.declared.opened.OpenDevice.{OpenDevice}
 use Rattle.usb_device_host.specs.HostState.{HostState}
-use Rattle.usb_device.specs.HandleStates.{StandsDevice}
+use Rattle.usb_device_host.specs.HandleStates.{StandsDevice}
 use Rattle.usb_device_ledger.specs.Devices.{if_held, device_changed}
 use Rattle.usb_device_ledger.proofs.DeviceLemmas.{KeepsOpened, changed-at, changed-other, handle-held, is-changed}
-use Rattle.usb_device.proofs.HeldDevices.{OpensOne}
+use Rattle.usb_device_host.proofs.HeldDevices.{OpensOne}
 use Rattle.usb_session_calls.specs.Names.{named, is_free, freed, nothing, set_name, something}
 use Rattle.usb_session_calls.specs.SessionState.{is_device_of}
 use Rattle.usb_session_calls.proofs.CountedNames.{count-change, count-none}

@@ -7,7 +7,7 @@ use Rattle.std.proofs.lemmas.Option.{none-some, same_Some}
 use Rattle.std.proofs.lemmas.List.Sums.{sum_by-cons}
 use Rattle.usb_device_ledger.specs.OwnerRows.{one_if}
 use Rattle.usb_device_ledger.specs.Entries.{ClaimedInterface}
-use Rattle.usb_device.specs.HandleStates.{InterfaceState}
+use Rattle.usb_device_host.specs.HandleStates.{InterfaceState}
 use Rattle.usb_device_tables.specs.History.{value_at}
 use Rattle.usb_device_tables.proofs.ValueLemmas.{value-within, value-put, value-push_cases}
 use Rattle.usb_device_ledger.proofs.ListLemmas.{count-some}

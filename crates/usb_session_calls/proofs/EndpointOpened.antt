@@ -15,14 +15,13 @@ use Rattle.usb_device_endpoint.proofs.Frames.{Stands-other}
 use Rattle.usb_device_ledger.specs.Entries.{HostEndpoint, ClaimedInterface}
 use Rattle.usb_device_host.specs.HostState.{HostState}
 use Rattle.usb_device_host.specs.HostBus.{bus_of}
-use Rattle.usb_device.specs.HandleStates.{InterfaceState, StandsInterface}
+use Rattle.usb_device_host.specs.HandleStates.{InterfaceState, StandsInterface}
 use Rattle.usb_device.specs.Futures.{FutureState}
 use Rattle.usb_desc.specs.Fields.{direction_of_address, transfer_type, max_packet_size, max_packet_size_raw}
 use Rattle.usb_error.specs.Errors.{wrong_direction_error, wrong_type_error, no_packet_size_error, endpoint_in_use_error}
 use Rattle.usb_device_host.specs.Owners.{is_in_use}
 use Rattle.usb_device_host.specs.EndpointRefusals.{same_direction, is_type, endpoint_tried}
 use Rattle.usb_device_host.specs.EndpointOpens.{host_asked, host_tries, with_endpoint, fresh_endpoint, endpoint_in}
-use Rattle.usb_device.proofs.StandLemmas.{StandsInterface-same}
 use Rattle.usb_device_host.proofs.InterfaceFrames.{asked-is, asked-counts}
 use Rattle.usb_device.proofs.FreshKeys.{endpoint-within}
 use Rattle.std.proofs.lemmas.Option.{same_Some}
@@ -39,10 +38,10 @@ use Rattle.usb_session_calls.specs.EndpointNames.{EndpointName, Own}
 use Rattle.usb_session_calls.specs.SessionState.{SessionState, IsSound, open_under}
 use Rattle.usb_session_calls.specs.Relation.{Represents, session_of}
 use Rattle.usb_device_ledger.proofs.DeviceLemmas.{KeepsCounts, counts-there, opened-counts}
-use Rattle.usb_device.proofs.DeviceLemmas.{counts-stands}
+use Rattle.usb_device_host.proofs.DeviceLemmas.{counts-stands}
 use Rattle.usb_device_host.specs.HostFrames.{ClaimsGoOn}
 use Rattle.usb_device_host.proofs.ClaimFrames.{goes-same, handles-own}
-use Rattle.usb_device.proofs.HeldDevices.{held-goes}
+use Rattle.usb_device_host.proofs.HeldDevices.{held-goes}
 use Rattle.usb_session_calls.proofs.CountedDevices.{devices-kept}
 use Rattle.usb_session_calls.proofs.CountedNames.{counted-goes}
 use Rattle.usb_session_calls.proofs.NameLemmas.{length-set_name, is_free-map, free-none}
@@ -52,6 +51,7 @@ use Rattle.usb_session_calls.proofs.Answering.{Gives, barred-gives, free_kept}
 use Rattle.usb_session_calls.proofs.NamedKeys.{none-bus, named-opened}
 use Rattle.usb_session_calls.proofs.NamedTickets.{tickets-opened}
 use Rattle.usb_session_calls.proofs.FutureLemmas.{control_with, future-goes, future-within, past-same}
+use Rattle.usb_device_host.proofs.LeftDevices.{StandsInterface-same}
 
 -- a look at the active configuration
 asked-keeps : (h now : HostState) (key : ℕ) → h.steps ≡ [] → now ≡ host_asked h key → KeepsSession h now

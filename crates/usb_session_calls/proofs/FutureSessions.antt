@@ -18,12 +18,11 @@ use Rattle.usb_device_host.proofs.ClaimFrames.{goes-trans}
 use Rattle.usb_device_host.proofs.CallFrames.{keeps-abandoned, line-left, interfaces-left, bus-left, bus-abandoned}
 use Rattle.usb_device_host.proofs.CloseLemmas.{abandoned-past}
 use Rattle.usb_device_ledger.proofs.DeviceLemmas.{counts-same, counts-there, opened-counts}
-use Rattle.usb_device.proofs.DeviceLemmas.{counts-stands}
+use Rattle.usb_device_host.proofs.DeviceLemmas.{counts-stands}
 use Rattle.usb_device_host.proofs.FollowLemmas.{on-left}
 use Rattle.usb_device.proofs.FreshKeys.{endpoint-within}
-use Rattle.usb_device.proofs.HeldDevices.{held-goes}
+use Rattle.usb_device_host.proofs.HeldDevices.{held-goes}
 use Rattle.usb_device_host.proofs.HostKeeps.{KeepsOpen}
-use Rattle.usb_device.proofs.StandLemmas.{StandsInterface-same}
 use Rattle.std.specs.List.{cons_option}
 use Rattle.usb_session_streams.specs.Accounts.{KeepsAccountsOf}
 use Rattle.usb_session_streams.proofs.AccountLemmas.{accounts-of, accounts-left, of-then, of-abandoned, key-goes}
@@ -37,6 +36,7 @@ use Rattle.usb_session_calls.proofs.FutureLemmas.{control_with, future-goes, fut
 use Rattle.usb_session_calls.proofs.NameLemmas.{length-freed, length-set_name, names-set}
 use Rattle.usb_session_calls.proofs.NamedTickets.{tickets-future_gone, tickets-future_opened}
 use Rattle.usb_session_calls.proofs.NamedKeys.{OpensNone, none-goes, named-future_closed, named-future_opened}
+use Rattle.usb_device_host.proofs.LeftDevices.{StandsInterface-same}
 
 -- what a session stands on is kept, and the endpoint of a key, at which these were pending, is open no more
 pub record LeavesKey (old new : HostState) (key : ℕ) (pending : List ℕ) : Type 0 where

@@ -2,30 +2,14 @@
 use Rattle.std.proofs.Common.{◌≡◌, ◌∙◌, ℕ, List, ◌++◌, Result, refl, ap, sym, String, string_bytes}
 use Rattle.std.specs.Prelude.{OnOk}
 use Rattle.std.specs.declared.alloc.Global.{Global}
-use Rattle.usb_error.specs.Errors.{clear_halt_error}
-use Rattle.usb_kernel.specs.Calls.{called}
-use Rattle.usb_device_endpoint.specs.CallErrors.{or_error}
 use Rattle.usb_device_endpoint.specs.EndpointState.{EndpointState}
 use Rattle.usb_device_host.specs.HostState.{HostState}
-use Rattle.usb_device_host.specs.HostFrames.{LineGoesOn}
-use Rattle.usb_device_host.specs.HostCalls.{host_halt_result, host_halt_cleared}
-use Rattle.usb_device_host.proofs.WaitFrames.{line-keeps}
-use Rattle.usb_session_text.specs.Calls.{result_line}
-use Rattle.usb_device_host.proofs.ClaimFrames.{goes-refl}
+use Rattle.usb_device_host.specs.HostCalls.{host_halt_cleared}
 use Rattle.usb_session_calls.specs.State.{State, with_host}
 use Rattle.usb_session_calls.specs.Answer.{Answer, answer_with}
-use Rattle.usb_session_calls.specs.Halts.{halt_cleared}
+use Rattle.usb_session_calls.specs.Halts.{halt_line, halt_cleared}
 use Rattle.usb_session_calls.specs.OpenCalls.{CallAnswers}
 use Rattle.usb_session_calls.proofs.Queue.{call-host}
-
-pub line-halt : (h : HostState) (device endpoint : ℕ) → LineGoesOn h (host_halt_cleared h device endpoint)
-unfolding called
-line-halt h device endpoint =
-    line-keeps h (host_halt_cleared h device endpoint) (record { line = record { steps = refl; spare = refl; devices = refl }; interfaces = goes-refl h.interfaces; endpoints = goes-refl h.endpoints })
-
--- what is printed of it
-abbrev pub halt_line : HostState → EndpointState → List ℕ
-halt_line h x = result_line (or_error clear_halt_error (host_halt_result h x.device x.address))
 
 abbrev halt_seen : State → HostState → EndpointState → Answer
 halt_seen state h x = answer_with (with_host state (host_halt_cleared h x.device x.address)) (halt_line h x)

@@ -12,7 +12,7 @@ use Rattle.usb_device_ledger.specs.declared.opened.OpenDevice.{OpenDevice}
 use Rattle.usb_device_ledger.specs.Entries.{ClaimedInterface, fresh_interface}
 use Rattle.usb_device_host.specs.HostState.{HostState}
 use Rattle.usb_device_host.specs.HostBus.{bus_of}
-use Rattle.usb_device.specs.HandleStates.{InterfaceState, StandsInterface}
+use Rattle.usb_device_host.specs.HandleStates.{InterfaceState, StandsInterface}
 use Rattle.usb_device_host.specs.Releases.{owner_gone}
 use Rattle.usb_device_ledger.specs.Owners.{has_living}
 use Rattle.usb_device_host.specs.Handles.{handle_added, handle_cloned, handle_gone, handle_closed}
@@ -23,8 +23,8 @@ use Rattle.usb_device_host.specs.HostFrames.{ClaimsGoOn}
 use Rattle.usb_device_host.proofs.ClaimFrames.{goes-same, goes-ended}
 use Rattle.usb_device_host.proofs.HostKeeps.{KeepsSteps}
 use Rattle.usb_device_ledger.proofs.DeviceLemmas.{KeepsOpened, opened-same}
-use Rattle.usb_device.proofs.HeldDevices.{opened-claimed, opened-handle_closed}
-use Rattle.usb_device.specs.DeviceLaws.{DevicesAreHeld}
+use Rattle.usb_device_host.proofs.HeldDevices.{opened-claimed, opened-handle_closed}
+use Rattle.usb_device_host.specs.DeviceLaws.{DevicesAreHeld}
 use Rattle.usb_kernel.specs.Tickets.{tickets}
 use Rattle.usb_device_host.proofs.CountLemmas.{KeepsCount, count-same, claimed-count, handle_closed-count}
 use Rattle.usb_session_calls.proofs.SoundDevices.{stands-held}

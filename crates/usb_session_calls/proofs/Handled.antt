@@ -1,10 +1,10 @@
 -- Calls on handles of interfaces: what they keep of a session.
 use Rattle.std.proofs.Common.{None, set, ◌≡◌, ℕ, Bool, true, List, length, Option, Some, Result, Ok, Err, refl, ap, sym, ◌∙◌, subst, inl, inr}
 use Rattle.usb_device_tables.specs.History.{value_at}
-use Rattle.usb_device.specs.DeviceLaws.{DevicesAreHeld}
+use Rattle.usb_device_host.specs.DeviceLaws.{DevicesAreHeld}
 use Rattle.usb_device_ledger.proofs.DeviceLemmas.{counts-same}
-use Rattle.usb_device.proofs.DeviceLemmas.{kept-stands}
-use Rattle.usb_device.proofs.HeldDevices.{held-handle_closed, held-handle_cloned, held-claimed, held-written}
+use Rattle.usb_device_host.proofs.DeviceLemmas.{kept-stands}
+use Rattle.usb_device_host.proofs.HeldDevices.{held-handle_closed, held-handle_cloned, held-claimed, held-written}
 use Rattle.usb_session_calls.proofs.CountedDevices.{devices-kept}
 use Rattle.usb_device_endpoint.specs.BusState.{BusState}
 use Rattle.usb_error.specs.ErrorState.{ErrorState}
@@ -12,7 +12,7 @@ use Rattle.usb_device_endpoint.specs.Handles.{Stands}
 use Rattle.usb_device_ledger.specs.declared.opened.OpenDevice.{OpenDevice}
 use Rattle.usb_device_ledger.specs.Entries.{ClaimedInterface, fresh_interface}
 use Rattle.usb_device_host.specs.HostState.{HostState}
-use Rattle.usb_device.specs.HandleStates.{InterfaceState, StandsInterface}
+use Rattle.usb_device_host.specs.HandleStates.{InterfaceState, StandsInterface}
 use Rattle.usb_device_host.specs.Handles.{handle_cloned, handle_closed}
 use Rattle.usb_device_ledger.specs.Owners.{has_living}
 use Rattle.usb_device_host.specs.InterfaceClaims.{claim_tried, host_claimed, claimed_key}

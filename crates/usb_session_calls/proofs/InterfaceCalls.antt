@@ -4,7 +4,7 @@ use Rattle.usb_device_tables.specs.History.{value_at}
 use Rattle.usb_session_text.specs.Calls.{condition_line}
 use Rattle.usb_device_ledger.specs.Entries.{ClaimedInterface}
 use Rattle.usb_device_host.specs.HostState.{HostState}
-use Rattle.usb_device.specs.HandleStates.{InterfaceState}
+use Rattle.usb_device_host.specs.HandleStates.{InterfaceState}
 use Rattle.usb_device_host.specs.EndpointOpens.{host_asked}
 use Rattle.usb_device_host.specs.OnInterfaces.{alt_setting_set}
 use Rattle.usb_device_host.proofs.InterfaceFrames.{asked-is}

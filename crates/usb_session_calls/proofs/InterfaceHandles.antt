@@ -6,7 +6,7 @@ use Rattle.usb_error.specs.Errors.{interface_in_use_error}
 use Rattle.usb_session_text.specs.Calls.{ok_line, condition_line, error_line}
 use Rattle.usb_device_ledger.specs.Entries.{ClaimedInterface}
 use Rattle.usb_device_host.specs.HostState.{HostState}
-use Rattle.usb_device.specs.HandleStates.{InterfaceState}
+use Rattle.usb_device_host.specs.HandleStates.{InterfaceState}
 use Rattle.usb_device.specs.HandleCalls as calls
 use Rattle.usb_device_host.specs.Handles.{handle_cloned, handle_closed}
 use Rattle.usb_device_host.specs.Owners.{is_shared}

@@ -29,9 +29,10 @@ use Rattle.usb_session_calls.proofs.NameLemmas.{change_named-none}
 use Rattle.usb_session_calls.specs.State.{State, Reader, tickets_of, with_host}
 use Rattle.usb_session_calls.specs.Readers.{taken_by_call, called, with_count, num_on, with_timeout, timeout_on, with_none, cancel_reader_on}
 use Rattle.usb_session_streams.specs.Needs.{bars_need}
-use Rattle.usb_session_streams.specs.ReaderCalls.{given_by, ReaderGoesOn}
+use Rattle.usb_session_streams.specs.ReaderCalls.{halt_came, given_by, ReaderGoesOn}
 use Rattle.usb_session_streams.proofs.AccountLemmas.{of-same}
 use Rattle.usb_session_calls.specs.Reads.{need_of, bars_read, consumed_with, is_until_short, polled_given_line, read_on, fill_on, read_off, consume_on, consume_end_on}
+use Rattle.usb_session_calls.specs.Halts.{halt_line, reader_halt_cleared}
 use Rattle.usb_session_calls.specs.Answer.{Answer, answer_with, condition_answer, ok_answer}
 use Rattle.usb_session_calls.specs.Answered.{Answered}
 use Rattle.usb_session_calls.specs.OpenCalls.{CallKeeps}
@@ -211,6 +212,20 @@ reader-cancelled old new x y before text result host_is is printed =
           ∙ ap (λ (z : ReaderState). all_discarded host_discarded old z.endpoint.pending) same ∙ sym host_is);
       same = ap (λ (z : ReaderState). record z { n = 0 }) same ∙ sym is;
     })
+
+-- its halt was cleared, or the kernel refused
+abbrev halt_seen : State → ℕ → Reader → HostState → ReaderState → Answer
+halt_seen state r at h z = answer_with (called state r at.consumed [] (halt_came (reading h z))) (halt_line h z.endpoint)
+
+pub reader-halt-made : {E : Type 0} (old new : HostState) (x y : ReaderState) (before text : String Global) (result : Result Unit E) → reading new y ≡ halt_came (reading old x)
+    → OnOk result (string_bytes text ≡ string_bytes before ++ halt_line old x.endpoint) → ReaderAnswers old new x y before text result (λ state r at. reader_halt_cleared state r at)
+reader-halt-made old new x y before text result is printed =
+    reader-comes old new x y before text result (halt_line old x.endpoint) (λ state r at. reader_halt_cleared state r at) printed
+    (λ state r at host_was same.
+    subst (λ (a : Answer). ComesTo state r at new y (halt_line old x.endpoint) a)
+    (ap (λ (w : Reading HostState). answer_with (called state r at.consumed [] w) (halt_line old x.endpoint)) is
+    ∙ sym (ap (λ (h : HostState). halt_seen state r at h at.state) host_was ∙ ap (halt_seen state r at old) same))
+    (called-comes state r at (reading new y) at.consumed [] (halt_line old x.endpoint)))
 
 more-yes : (n m : ℕ) → n < m → nat_lt n m ≡ true
 more-yes n m more = grind (arith, nat_tests)

@@ -77,7 +77,7 @@ count_of g = length (tickets g.kernel.past)
 
 abbrev transfer_seen : State → ℕ → BufferState → ℕ → HostState → EndpointState → Bool → Answer
 transfer_seen state e b timeout g z bars =
-    if bars then condition_answer state else transfer_ended state e (count_of g) (blocked host_calls (count_of g) timeout (entered host_calls g z b))
+    if bars then condition_answer state else transfer_ended state e (count_of g) (blocked host_calls (count_of g) timeout (entered host_calls g z None b))
 
 transfer-seen : (state : State) (direction : Direction) (e : ℕ) (b : BufferState) (timeout : ℕ) (h : Endpoint) (old : HostState) (x : EndpointState) (bars : Bool) → state.host ≡ old → h.state ≡ x → bars_transfer old.kernel.past direction x ≡ bars → transfer_on state direction e b timeout h ≡ transfer_seen state e b timeout old x bars
 transfer-seen state direction e b timeout h old x bars host_was same is =
@@ -97,7 +97,7 @@ took-is mid now x y t ts c (Some d) is = (ap (λ (p : Polled HostState). p.compl
 
 -- what is left before it is taken
 abbrev made_by : HostState → EndpointState → BufferState → ℕ → HostState
-made_by host x b timeout = blocked host_calls (count_of host) timeout (entered host_calls host x b)
+made_by host x b timeout = blocked host_calls (count_of host) timeout (entered host_calls host x None b)
 
 pub transfer-answers : {E : Type 0} (host now : HostState) (x y : EndpointState) (before text : String Global) (result : Result Unit E) (direction : Direction) (b : BufferState) (timeout : ℕ) (c : Completion) → bars_transfer host.kernel.past direction x ≡ false → y ≡ x → transferred host_calls timeout host x b ≡ front_found (Some c) now y → OnOk result (string_bytes text ≡ string_bytes before ++ waited_line (Some c)) → CallAnswers host now x y before text result (λ state e h. transfer_on state direction e b timeout h)
 transfer-answers host now x y before text result direction b timeout c bars same_y is printed =
@@ -117,22 +117,22 @@ transfer-answers host now x y before text result direction b timeout c bars same
 
 pub transfer-keeps : (host now : HostState) (x y : EndpointState) (b : BufferState) (timeout : ℕ) (c : Completion) → transferred host_calls timeout host x b ≡ front_found (Some c) now y → y ≡ x → Stands (bus_of host) x → Stands (bus_of now) y → KeepsOthers (bus_of host) (bus_of now) x.key → CallKeeps host now x y
 transfer-keeps host now x y b timeout c is same was stands others =
-    let first = entered host_calls host x b in
+    let first = entered host_calls host x None b in
     let mid : HostState = made_by host x b timeout in
     let one = record x { pending = count_of host ∷ [] } in
     let went = went-blocked first (count_of host) timeout in
     let took = took-is mid now one y (count_of host) [] c (transfer_completion mid.kernel.past (count_of host)) is in
     let none : x.pending ≡ [] = sym (ap (λ (z : EndpointState). z.pending) same) ∙ sym took.2 in
     record {
-      line = line-trans host mid now (line-trans host first mid (line-entered host x b) went.line) (polled-goes mid one (Some c) now y is);
+      line = line-trans host mid now (line-trans host first mid (line-entered host x None b) went.line) (polled-goes mid one (Some c) now y is);
       past =
           extends-trans host.kernel.past mid.kernel.past now.kernel.past
-          (extends-trans host.kernel.past first.kernel.past mid.kernel.past (past-entered host x b) went.later.past) (polled-past mid one (Some c) now y is);
+          (extends-trans host.kernel.past first.kernel.past mid.kernel.past (past-entered host x None b) went.later.past) (polled-past mid one (Some c) now y is);
       stands = stands;
       others = others;
       key = ap (λ (z : EndpointState). z.key) same;
       maximum = ap (λ (z : EndpointState). z.maximum) same;
       accounts =
-          of-then host first now x.key x.pending one.pending y.pending (subst (λ (l : List ℕ). KeepsAccountsOf host first x.key x.pending (l ++ count_of host ∷ [])) none (of-entered host x b was.key_is_open))
+          of-then host first now x.key x.pending one.pending y.pending (subst (λ (l : List ℕ). KeepsAccountsOf host first x.key x.pending (l ++ count_of host ∷ [])) none (of-entered host x None b was.key_is_open))
           (of-then first mid now x.key one.pending one.pending y.pending (accounts-of first mid x.key one.pending (accounts-blocked first (count_of host) timeout)) (polled-accounts mid one (Some c) now y is));
     }

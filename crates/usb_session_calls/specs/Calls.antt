@@ -1,5 +1,5 @@
 -- The call of a line, by what it is made on.
-use Rattle.std.specs.Prelude.{ℕ, Bool, true, false, List, [], length}
+use Rattle.std.specs.Prelude.{ℕ, Bool, true, false, List, [], length, Some, None}
 use Rattle.usb_kernel_devices.specs.declared.step.KernelStep.{KernelStep}
 use Rattle.usb_script_lines.specs.declared.item.Item.{Item}
 use Rattle.usb_script_lines.specs.declared.item.Item.TheVariants as item
@@ -65,8 +65,10 @@ call_of (item.AttachDriver d number) = Device d (devices.AttachDriver number)
 call_of (item.SetAltSetting i setting) = Interface i (interfaces.SetAltSetting setting)
 call_of (item.GetAltSetting i) = Interface i interfaces.GetAltSetting
 call_of (item.InterfaceDescriptor i) = Interface i interfaces.Descriptor
-call_of (item.SubmitIn e n) = Endpoint e (endpoints.SubmitIn n) []
-call_of (item.SubmitOut e bytes) = Endpoint e (endpoints.SubmitOut bytes) []
+call_of (item.SubmitIn e n) = Endpoint e (endpoints.SubmitIn n None) []
+call_of (item.SubmitOut e bytes) = Endpoint e (endpoints.SubmitOut bytes None) []
+call_of (item.SubmitInWithDeadline e n timeout) = Endpoint e (endpoints.SubmitIn n (Some timeout)) []
+call_of (item.SubmitOutWithDeadline e bytes timeout) = Endpoint e (endpoints.SubmitOut bytes (Some timeout)) []
 call_of (item.Pending e) = Endpoint e endpoints.Pending []
 call_of (item.Poll e) = Endpoint e endpoints.Poll []
 call_of (item.Wait e timeout steps) = Endpoint e (endpoints.Wait timeout) steps
@@ -84,6 +86,7 @@ call_of (item.ConsumeEnd r) = Reader r readers.ConsumeEnd []
 call_of (item.SetNumTransfers r n) = Reader r (readers.SetNumTransfers n) []
 call_of (item.SetReadTimeout r timeout) = Reader r (readers.SetReadTimeout timeout) []
 call_of (item.CancelReader r) = Reader r readers.Cancel []
+call_of (item.ClearReaderHalt r) = Reader r readers.ClearHalt []
 call_of (item.Write w bytes steps) = Writer w (writers.Write bytes) steps
 call_of (item.PollWrite w bytes) = Writer w (writers.PollWrite bytes) []
 call_of (item.Submit w) = Writer w writers.Submit []

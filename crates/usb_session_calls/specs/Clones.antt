@@ -1,6 +1,6 @@
 -- `clone`: one more handle of an open device, or of a claimed interface. It is barred where that is not open, or the new name is in use.
 use Rattle.std.specs.Prelude.{ℕ, if◌then◌else◌}
-use Rattle.usb_device.specs.HandleStates.{InterfaceState}
+use Rattle.usb_device_host.specs.HandleStates.{InterfaceState}
 use Rattle.usb_device_host.specs.Handles.{device_cloned, handle_cloned}
 use Rattle.usb_session_calls.specs.Names.{named, is_free, set_name}
 use Rattle.usb_session_calls.specs.State.{State}

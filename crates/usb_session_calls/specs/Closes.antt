@@ -6,7 +6,7 @@
 use Rattle.std.specs.Prelude.{ℕ, Option, Some, None, if◌then◌else◌}
 use Rattle.usb_device_endpoint.specs.Closes.{all_discarded, after_close}
 use Rattle.usb_device_host.specs.HostCalls.{host_discarded, host_calls}
-use Rattle.usb_device.specs.HandleStates.{InterfaceState}
+use Rattle.usb_device_host.specs.HandleStates.{InterfaceState}
 use Rattle.usb_device_host.specs.Handles.{device_closed, handle_closed}
 use Rattle.usb_device.specs.Futures.{FutureState, future_closed}
 use Rattle.usb_device_host.specs.Owners.{is_shared}

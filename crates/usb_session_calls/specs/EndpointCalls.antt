@@ -17,8 +17,8 @@ use Rattle.usb_session_calls.specs.Halts.{halt_cleared}
 
 -- each call at an endpoint that is open (h)
 abbrev pub endpoint_called : EndpointCall → State → ℕ → Endpoint → Answer
-endpoint_called (SubmitIn n) state e h = submit_on state In e (in_buffer n) h
-endpoint_called (SubmitOut bytes) state e h = submit_on state Out e (out_buffer bytes) h
+endpoint_called (SubmitIn n timeout) state e h = submit_on state In e (in_buffer n) timeout h
+endpoint_called (SubmitOut bytes timeout) state e h = submit_on state Out e (out_buffer bytes) timeout h
 endpoint_called Pending state e h = answer_with state (count_line (length h.state.pending))
 endpoint_called Poll state e h = poll_on state e (slice_get h.state.pending 0)
 endpoint_called (Wait timeout) state e h = wait_on state e timeout (slice_get h.state.pending 0)

@@ -4,7 +4,7 @@ use Rattle.std.specs.Option.{option_map}
 use Rattle.usb_device_tables.specs.History.{value_at}
 use Rattle.usb_device_ledger.specs.declared.opened.OpenDevice.{OpenDevice}
 use Rattle.usb_device_ledger.specs.Entries.{ClaimedInterface}
-use Rattle.usb_device.specs.HandleStates.{InterfaceState}
+use Rattle.usb_device_host.specs.HandleStates.{InterfaceState}
 use Rattle.usb_session_calls.specs.Names.{named}
 use Rattle.usb_session_calls.specs.State.{State}
 

@@ -12,9 +12,9 @@ use Rattle.usb_device_host.specs.HostState.{HostState}
 use Rattle.usb_device_host.specs.HostBus.{bus_of, key_at}
 use Rattle.usb_io.specs.Readers.{ReaderState}
 use Rattle.usb_io.specs.Writers.{WriterState}
-use Rattle.usb_device.specs.HandleStates.{InterfaceState, StandsDevice, StandsInterface}
+use Rattle.usb_device_host.specs.HandleStates.{InterfaceState, StandsDevice, StandsInterface}
 use Rattle.usb_device.specs.Futures.{FutureState, StandsFuture}
-use Rattle.usb_device.specs.DeviceLaws.{DevicesAreHeld}
+use Rattle.usb_device_host.specs.DeviceLaws.{DevicesAreHeld}
 use Rattle.usb_device.specs.OwnerLaws.{ClaimsAreOwned}
 use Rattle.usb_session_streams.specs.Accounts.{TicketsAreCounted}
 use Rattle.usb_session_calls.specs.Names.{named}

@@ -5,7 +5,7 @@ use Rattle.usb_enum_sysfs.specs.Tree.{Tree}
 use Rattle.usb_enum.specs.declared.hotplug.UdevPacket.{UdevPacket}
 use Rattle.usb_device_endpoint.specs.EndpointState.{EndpointState}
 use Rattle.usb_device_host.specs.HostState.{HostState}
-use Rattle.usb_device.specs.HandleStates.{InterfaceState}
+use Rattle.usb_device_host.specs.HandleStates.{InterfaceState}
 use Rattle.usb_device.specs.Futures.{FutureState}
 use Rattle.usb_io.specs.Readers.{ReaderState}
 use Rattle.usb_io.specs.Streams.{Mark}

@@ -16,7 +16,7 @@ use Rattle.usb_device_host.specs.HostState.{HostState}
 use Rattle.usb_device_host.specs.HostBus.{bus_of, key_at}
 use Rattle.usb_device_host.specs.HostFrames.{ClaimsGoOn}
 use Rattle.usb_device_host.specs.Controls.{request_started}
-use Rattle.usb_device.specs.HandleStates.{InterfaceState, StandsDevice, StandsInterface}
+use Rattle.usb_device_host.specs.HandleStates.{InterfaceState, StandsDevice, StandsInterface}
 use Rattle.usb_device.specs.Futures.{FutureState, fresh_future}
 use Rattle.usb_script_words.specs.declared.control.ControlTarget.{ControlTarget}
 use Rattle.usb_script_words.specs.declared.control.ControlTarget.TheVariants.{Device, Interface}

@@ -1,5 +1,5 @@
 -- `xferin` and `xferout`: a blocking transfer, with the steps of the line.
-use Rattle.std.specs.Prelude.{ℕ, ◌==◌, nat_le, not, ◌||◌, Bool, List, [], ◌∷◌, ◌++◌, length, if◌then◌else◌}
+use Rattle.std.specs.Prelude.{ℕ, ◌==◌, nat_le, not, ◌||◌, Bool, List, [], ◌∷◌, ◌++◌, length, None, if◌then◌else◌}
 use Rattle.usb_desc.specs.declared.types.Direction.{Direction}
 use Rattle.usb_xfer.specs.BufferState.{BufferState}
 use Rattle.usb_kernel.specs.declared.event.Event.{Event}
@@ -36,7 +36,7 @@ transfer_ended state e t host =
 abbrev pub transfer_made : State → ℕ → BufferState → ℕ → Endpoint → Answer
 transfer_made state e b timeout h =
     transfer_ended state e (tickets_of state)
-    (blocked host_calls (tickets_of state) timeout (entered host_calls state.host h.state b))
+    (blocked host_calls (tickets_of state) timeout (entered host_calls state.host h.state None b))
 
 -- on an endpoint that is open (h)
 abbrev pub transfer_on : State → Direction → ℕ → BufferState → ℕ → Endpoint → Answer

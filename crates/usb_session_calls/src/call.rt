@@ -183,10 +183,10 @@ pub enum InterfaceCall {
 /// A call on an open endpoint.
 #[derive(Drop)]
 pub enum EndpointCall {
-    /// A transfer that asks for so many bytes is handed in.
-    SubmitIn(Length),
-    /// A transfer of these bytes is handed in.
-    SubmitOut(Data),
+    /// A transfer that asks for so many bytes is handed in, with a deadline where a timeout is given.
+    SubmitIn(Length, Option<Timeout>),
+    /// A transfer of these bytes is handed in, with a deadline where a timeout is given.
+    SubmitOut(Data, Option<Timeout>),
     /// How many transfers are pending.
     Pending,
     /// The oldest pending transfer is taken, where it is reaped.
@@ -227,6 +227,8 @@ pub enum ReaderCall {
     SetReadTimeout(Timeout),
     /// The pending transfers are discarded, from the last to the first.
     Cancel,
+    /// The halt of its endpoint is cleared, and with it the error that lasted.
+    ClearHalt,
 }
 
 /// A call on a writer.

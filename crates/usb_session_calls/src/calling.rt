@@ -94,9 +94,13 @@ pub fn call_of(alloc: Global, item: Item) -> Call
         GetAltSetting { interface } => Call::Interface(interface, InterfaceCall::GetAltSetting);
         InterfaceDescriptor { interface } => Call::Interface(interface, InterfaceCall::Descriptor);
         SubmitIn { endpoint, length } =>
-            Call::Endpoint(endpoint, EndpointCall::SubmitIn(length), no_steps(alloc));
+            Call::Endpoint(endpoint, EndpointCall::SubmitIn(length, None), no_steps(alloc));
         SubmitOut { endpoint, bytes } =>
-            Call::Endpoint(endpoint, EndpointCall::SubmitOut(bytes), no_steps(alloc));
+            Call::Endpoint(endpoint, EndpointCall::SubmitOut(bytes, None), no_steps(alloc));
+        SubmitInWithDeadline { endpoint, length, timeout } =>
+            Call::Endpoint(endpoint, EndpointCall::SubmitIn(length, Some(timeout)), no_steps(alloc));
+        SubmitOutWithDeadline { endpoint, bytes, timeout } =>
+            Call::Endpoint(endpoint, EndpointCall::SubmitOut(bytes, Some(timeout)), no_steps(alloc));
         Pending { endpoint } => Call::Endpoint(endpoint, EndpointCall::Pending, no_steps(alloc));
         Poll { endpoint } => Call::Endpoint(endpoint, EndpointCall::Poll, no_steps(alloc));
         Wait { endpoint, timeout, steps } =>
@@ -125,6 +129,7 @@ pub fn call_of(alloc: Global, item: Item) -> Call
         SetReadTimeout { reader, timeout } =>
             Call::Reader(reader, ReaderCall::SetReadTimeout(timeout), no_steps(alloc));
         CancelReader { reader } => Call::Reader(reader, ReaderCall::Cancel, no_steps(alloc));
+        ClearReaderHalt { reader } => Call::Reader(reader, ReaderCall::ClearHalt, no_steps(alloc));
         Write { writer, bytes, steps } => Call::Writer(writer, WriterCall::Write(bytes), steps);
         PollWrite { writer, bytes } =>
             Call::Writer(writer, WriterCall::PollWrite(bytes), no_steps(alloc));

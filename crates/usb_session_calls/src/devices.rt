@@ -4,7 +4,7 @@
 ghost use Rattle.std.specs.Prelude.{◌≡◌, ◌≤◌, ◌+◌, ◌++◌, OnOk, length, string_bytes};
 ghost use Rattle.std.specs.Option.{ForSome};
 ghost use Rattle.usb_device_tables.specs.History.{value_at};
-ghost use Rattle.usb_device.specs.HandleStates.{StandsDevice};
+ghost use Rattle.usb_device_host.specs.HandleStates.{StandsDevice};
 ghost use Rattle.usb_device_host.specs.OnDevices.{active_of};
 ghost use Rattle.usb_session_calls.specs.OpenAt.{device_with};
 ghost use Rattle.usb_session_calls.specs.DeviceCalls.{active_line, device_called, device_places};

@@ -32,12 +32,13 @@ pub fn call_endpoint(
         line.old line.new result (endpoint_called call) }
 {
     match call {
-        EndpointCall::SubmitIn(length) => {
+        EndpointCall::SubmitIn(length, timeout) => {
             let buffer = in_buffer(*line.allocator(), length)?;
-            submit_open(endpoint, host, line, Direction::In, buffer)
+            submit_open(endpoint, host, line, Direction::In, buffer, timeout)
         }
-        EndpointCall::SubmitOut(bytes) => {
-            submit_open(endpoint, host, line, Direction::Out, out_buffer(bytes))
+        EndpointCall::SubmitOut(bytes, timeout) => {
+            let buffer = out_buffer(bytes);
+            submit_open(endpoint, host, line, Direction::Out, buffer, timeout)
         }
         EndpointCall::Pending => pending_open(endpoint, line),
         EndpointCall::Poll => poll_open(endpoint, host, line),

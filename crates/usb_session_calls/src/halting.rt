@@ -1,15 +1,17 @@
-//! `halt`: the halt of an endpoint is cleared.
+//! `halt`: the halt of an endpoint is cleared, by its own name or by its reader's.
 
 ghost use Rattle.std.specs.Prelude.{◌≡◌};
 ghost use Rattle.usb_device_endpoint.specs.Handles.{Stands};
 ghost use Rattle.usb_device_host.specs.HostBus.{bus_of};
 ghost use Rattle.usb_session_calls.specs.State.{State};
-ghost use Rattle.usb_session_calls.specs.Halts.{halt_cleared};
+ghost use Rattle.usb_session_calls.specs.Halts.{halt_cleared, reader_halt_cleared};
 ghost use Rattle.usb_session_calls.specs.OpenCalls.{CallKeeps, CallAnswers};
+ghost use Rattle.usb_session_calls.specs.ReaderCalls.{ReaderAnswers};
 
 use usb_desc::NoMemory;
 use usb_device::Host;
 use usb_device_endpoint::Endpoint;
+use usb_io::EndpointRead;
 use usb_session_text::{write_condition, write_result};
 use usb_xfer::Any;
 
@@ -25,4 +27,20 @@ pub(crate) fn clear_open(
         line.old line.new result (λ state e h. halt_cleared state h) }
 {
     write_result(line, &endpoint.clear_halt(host))
+}
+
+/// Clears the halt of the endpoint of a reader that is open, and with it the error that lasted.
+pub(crate) fn clear_reader_open(
+    reader: &mut EndpointRead<Any>,
+    host: &mut Host,
+    line: &mut String,
+) -> Result<(), NoMemory>
+    requires stands { Stands (bus_of host.old) reader.old.endpoint }
+    ensures keeps { CallKeeps host.old host.new reader.old.endpoint
+        reader.new.endpoint }
+    ensures answered { ReaderAnswers host.old host.new reader.old
+        reader.new line.old line.new result
+        (λ state r at. reader_halt_cleared state r at) }
+{
+    write_result(line, &reader.clear_halt(host))
 }

@@ -3,7 +3,7 @@
 ghost use Rattle.std.specs.Prelude.{◌≡◌, ◌++◌, OnOk, string_bytes};
 ghost use Rattle.std.specs.Option.{ForSome};
 ghost use Rattle.usb_device_tables.specs.History.{value_at};
-ghost use Rattle.usb_device.specs.HandleStates.{StandsInterface};
+ghost use Rattle.usb_device_host.specs.HandleStates.{StandsInterface};
 ghost use Rattle.usb_session_calls.specs.OpenAt.{interface_with};
 ghost use Rattle.usb_session_calls.specs.InterfaceCalls.{interface_called};
 

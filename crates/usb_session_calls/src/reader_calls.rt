@@ -8,6 +8,7 @@ ghost use Rattle.usb_session_calls.specs.OpenCalls.{CallKeeps};
 
 use crate::call::ReaderCall;
 use crate::filling::{fill_open, poll_fill_open};
+use crate::halting::clear_reader_open;
 use crate::reader_settings::{
     cancel_reader_open, consume_end_open, consume_open, is_end_open, num_open, timeout_open,
 };
@@ -41,5 +42,6 @@ pub fn call_reader(
         ReaderCall::SetNumTransfers(count) => num_open(reader, host, line, count),
         ReaderCall::SetReadTimeout(timeout) => timeout_open(reader, line, timeout),
         ReaderCall::Cancel => cancel_reader_open(reader, host, line),
+        ReaderCall::ClearHalt => clear_reader_open(reader, host, line),
     }
 }

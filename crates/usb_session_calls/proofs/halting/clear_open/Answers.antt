@@ -5,7 +5,8 @@ use Rattle.usb_device_host.specs.HostState.{HostState}
 use Rattle.usb_device_host.specs.HostFrames.{LineGoesOn}
 use Rattle.usb_session_streams.proofs.AccountLemmas.{accounts-of, accounts-halt, of-is}
 use Rattle.usb_session_calls.proofs.DeviceHosts.{halt-aside}
-use Rattle.usb_session_calls.proofs.HaltCode.{line-halt, halt-made}
+use Rattle.usb_session_streams.proofs.LinesGoOn.{line-halt}
+use Rattle.usb_session_calls.proofs.HaltCode.{halt-made}
 use Rattle.usb_session_calls.proofs.halting.clear_open.Goals as goal
 
 pub returns-clause-keeps : goal.returns-clause-keeps

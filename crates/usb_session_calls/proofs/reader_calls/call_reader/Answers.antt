@@ -39,3 +39,6 @@ returns-in-SetReadTimeout-clause-answered c = rw c.in-SetReadTimeout.is (c.timeo
 
 pub returns-in-Cancel-clause-answered : goal.returns-in-Cancel-clause-answered
 returns-in-Cancel-clause-answered c = rw c.in-Cancel.is c.cancel_reader_open.ensures.answered
+
+pub returns-in-ClearHalt-clause-answered : goal.returns-in-ClearHalt-clause-answered
+returns-in-ClearHalt-clause-answered c = rw c.in-ClearHalt.is c.clear_reader_open.ensures.answered
