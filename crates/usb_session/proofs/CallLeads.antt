@@ -106,12 +106,12 @@ module _ (a : Answer) (state : State) (e : EndpointName) (h : Endpoint) (stream 
       stays at = record { here = at; others = λ d apart. refl }
 
   -- a submission
-  pub leads-send : (host : HostState) (x : EndpointState) (b : BufferState) → Leads a state e h host x → Leads a state e h (entered host_calls host x b) (record x { pending = x.pending ++ count_in host ∷ [] })
+  pub leads-send : (host : HostState) (x : EndpointState) (b : BufferState) → Leads a state e h host x → Leads a state e h (entered host_calls host x None b) (record x { pending = x.pending ++ count_in host ∷ [] })
   leads-send host x b l =
       let m = tickets_of state in
       let n = count_in host in
-      let after = entered host_calls host x b in
-      let one = (entered-count host x b).past in
+      let after = entered host_calls host x None b in
+      let one = (entered-count host x None b).past in
       let more = l.more in
       let next : count_in after - m ≡ suc (n - m) = omega (arith, one, more) in
       let last : m + (n - m) ≡ n = omega (arith, more) in
@@ -125,7 +125,7 @@ module _ (a : Answer) (state : State) (e : EndpointName) (h : Endpoint) (stream 
             ∙ ap (λ (j : ℕ). h.state.pending ++ (numbers_from m (n - m) ++ j ∷ [])) (sym last)
             ∙ sym (ap (λ (k : ℕ). h.state.pending ++ numbers_from m k) next);
         more = omega (arith, one, more);
-        leads = λ rest. l.leads (submits e b (by_now h l.taken x) (here-now l.taken x) (changes-at l.taken l.taken x y host after) rest);
+        leads = λ rest. l.leads (submits e None b (by_now h l.taken x) (here-now l.taken x) (changes-at l.taken l.taken x y host after) rest);
       }
 
   -- a wait
@@ -140,6 +140,19 @@ module _ (a : Answer) (state : State) (e : EndpointName) (h : Endpoint) (stream 
         are = l.are ∙ sym (ap (λ (k : ℕ). h.state.pending ++ numbers_from m (k - m)) same);
         more = omega (arith, same, more);
         leads = λ rest. l.leads (goes (record { keeps = on-waited host front timeout; count = count; endpoints = λ d. refl; names = refl; futures = refl }) rest);
+      }
+
+  -- journal and tickets stay as they were
+  pub leads-aside : (host now : HostState) (x : EndpointState) → now.kernel.past ≡ host.kernel.past → now.tickets ≡ host.tickets → Leads a state e h host x → Leads a state e h now x
+  leads-aside host now x past held l =
+      let m = tickets_of state in
+      let same : count_in now ≡ count_in host = ap (λ p. length (tickets p)) past in
+      let more = l.more in
+      record {
+        taken = l.taken;
+        are = l.are ∙ sym (ap (λ (k : ℕ). h.state.pending ++ numbers_from m (k - m)) same);
+        more = omega (arith, same, more);
+        leads = λ rest. l.leads (goes (quiet-aside (at_call state e (by_now h l.taken x) host) (at_call state e (by_now h l.taken x) now) past held (λ d. refl) refl refl) rest);
       }
 
   -- the front is taken

@@ -350,18 +350,18 @@ wait_on-speaks state e timeout (Some t) =
     let host = waited host_calls t timeout state.host in
     took-speaks waited_line (with_host state host) e t (transfer_completion host.kernel.past t) waited-speaks
 
-submit_on-speaks : (state : State) (direction : Direction) (e : ℕ) (b : BufferState) (h : Endpoint) → Speaks (submit_on state direction e b h)
-submit_on-speaks state direction e b h = bar-speaks state (bars_submission state.host.kernel.past direction h.state) (ok_answer (submitted state e b h)) refl
+submit_on-speaks : (state : State) (direction : Direction) (e : ℕ) (b : BufferState) (timeout : Option ℕ) (h : Endpoint) → Speaks (submit_on state direction e b timeout h)
+submit_on-speaks state direction e b timeout h = bar-speaks state (bars_submission state.host.kernel.past direction h.state) (ok_answer (submitted state e b timeout h)) refl
 
 transfer_on-speaks : (state : State) (direction : Direction) (e : ℕ) (b : BufferState) (timeout : ℕ) (h : Endpoint) → Speaks (transfer_on state direction e b timeout h)
 transfer_on-speaks state direction e b timeout h =
     bar-speaks state (bars_transfer state.host.kernel.past direction h.state) (transfer_made state e b timeout h)
-    (waited-speaks (transfer_completion (blocked host_calls (tickets_of state) timeout (entered host_calls state.host h.state b)).kernel.past (tickets_of state)))
+    (waited-speaks (transfer_completion (blocked host_calls (tickets_of state) timeout (entered host_calls state.host h.state None b)).kernel.past (tickets_of state)))
 
 endpoint_called-speaks : (state : State) (e : ℕ) (call : EndpointCall) (h : Endpoint) → Speaks (endpoint_called call state e h)
 unfolding count_line
-endpoint_called-speaks state e (endpoints.SubmitIn n) h = submit_on-speaks state In e (in_buffer n) h
-endpoint_called-speaks state e (endpoints.SubmitOut bytes) h = submit_on-speaks state Out e (out_buffer bytes) h
+endpoint_called-speaks state e (endpoints.SubmitIn n timeout) h = submit_on-speaks state In e (in_buffer n) timeout h
+endpoint_called-speaks state e (endpoints.SubmitOut bytes timeout) h = submit_on-speaks state Out e (out_buffer bytes) timeout h
 endpoint_called-speaks state e endpoints.Pending h = refl
 endpoint_called-speaks state e endpoints.Poll h = poll_on-speaks state e (slice_get h.state.pending 0)
 endpoint_called-speaks state e (endpoints.Wait timeout) h = wait_on-speaks state e timeout (slice_get h.state.pending 0)
@@ -422,6 +422,7 @@ reader_called-speaks state r (readers.SetNumTransfers n) x =
     (ok_answer (called state r x.consumed [] (filled_to host_calls (n - 1) (reading state.host (with_count n x.state))))) refl
 reader_called-speaks state r (readers.SetReadTimeout timeout) x = refl
 reader_called-speaks state r readers.Cancel x = refl
+reader_called-speaks state r readers.ClearHalt x = result-speaks (or_error clear_halt_error (host_halt_result state.host x.state.endpoint.device x.state.endpoint.address))
 
 -- on writers
 write_fault-speaks : (fault : WriteFault) → has_line (write_fault_line fault) ≡ true

@@ -7,7 +7,7 @@ use Rattle.usb_session_text.specs.Calls.{ok_line, condition_line, error_line}
 use Rattle.usb_device_endpoint.specs.BusState.{BusState}
 use Rattle.usb_device_ledger.specs.declared.opened.OpenDevice.{OpenDevice}
 use Rattle.usb_device_host.specs.HostState.{HostState}
-use Rattle.usb_device.specs.HandleStates.{InterfaceState}
+use Rattle.usb_device_host.specs.HandleStates.{InterfaceState}
 use Rattle.usb_device_host.specs.CallErrors.{Leaves}
 use Rattle.usb_device_host.specs.InterfaceClaims.{claim_tried, host_claimed, claimed_key}
 use Rattle.usb_device_host.proofs.Left.{left}

@@ -18,7 +18,8 @@ use Rattle.usb_xfer.specs.Transfers.{request_in}
 use Rattle.usb_xfer.specs.declared.transfer.TransferData.{TransferData}
 use Rattle.usb_device_endpoint.specs.Waits.{is_reaped}
 use Rattle.usb_device_host.specs.HostState.{HostState}
-use Rattle.usb_device_host.specs.Controls.{control_submission, deadline_after, request_started}
+use Rattle.usb_device_host.specs.Controls.{control_submission, request_started}
+use Rattle.usb_kernel.specs.Timers.{deadline_after}
 use Rattle.usb_device_host.specs.HostCalls.{host_left, host_calls}
 use Rattle.usb_device_host.specs.TicketEnds.{host_taken, host_abandoned}
 use Rattle.usb_device_host.proofs.AwaitLemmas.{awaited-finds}

@@ -11,7 +11,8 @@ use Rattle.usb_error.specs.declared.descriptor_error.GetDescriptorError.TheVaria
 use Rattle.usb_xfer.specs.declared.transfer.TransferData.{TransferData}
 use Rattle.usb_device_host.specs.HostState.{HostState}
 use Rattle.usb_xfer.specs.Transfers.{request_in}
-use Rattle.usb_device_host.specs.Controls.{deadline_after, control_submission}
+use Rattle.usb_kernel.specs.Timers.{deadline_after}
+use Rattle.usb_device_host.specs.Controls.{control_submission}
 use Rattle.usb_device_host.proofs.CountLemmas.{KeepsCount, CountsOneMore, count-trans, rest-count}
 use Rattle.usb_device_host.proofs.StartedLemmas.{Parts, AddsTaken, parts-none, parts-taken, parts-abandoned, started-count, controlled-count, controlled-adds, on-awaited, awaited-count}
 use Rattle.usb_device.specs.Futures.{FutureState, taken_by, closed_by, awaited_by, future_taken, future_closed, future_awaited, future_answer}

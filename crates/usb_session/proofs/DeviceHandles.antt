@@ -6,10 +6,10 @@ use Rattle.std.proofs.lemmas.Bool.{eq-eqb, ne_eqb}
 use Rattle.usb_session_text.specs.Calls.{ok_line, condition_line}
 use Rattle.usb_device_ledger.specs.OwnerRows.{one_if}
 use Rattle.usb_device_host.specs.HostState.{HostState}
-use Rattle.usb_device.specs.HandleStates.{StandsDevice}
+use Rattle.usb_device_host.specs.HandleStates.{StandsDevice}
 use Rattle.usb_device_ledger.specs.Devices.{handle_more, handle_less}
 use Rattle.usb_device_host.specs.Handles.{device_cloned, device_closed}
-use Rattle.usb_device.proofs.HeldDevices.{held-device_cloned, held-device_closed}
+use Rattle.usb_device_host.proofs.HeldDevices.{held-device_cloned, held-device_closed}
 use Rattle.usb_session_calls.specs.Names.{named, is_free, freed, set_name}
 use Rattle.usb_session_calls.specs.State.{State}
 use Rattle.usb_session_calls.specs.Clones.{clone_device_answer}

@@ -8,7 +8,7 @@ use Rattle.usb_session_text.specs.Devices.{device_line}
 use Rattle.usb_session_text.specs.Descriptors.{descriptors_line, setting_words, class_words}
 use Rattle.usb_session_text.specs.Settings.{configuration_line, no_configuration_line, speed_line, alt_setting_line, interface_line}
 use Rattle.usb_kernel.specs.Calls.{called}
-use Rattle.usb_device.specs.HandleStates.{InterfaceState}
+use Rattle.usb_device_host.specs.HandleStates.{InterfaceState}
 use Rattle.usb_device_ledger.specs.Entries.{ClaimedInterface}
 use Rattle.usb_device_host.specs.HostState.{HostState}
 use Rattle.usb_device_host.specs.Opens.{host_opened, open_key}

@@ -140,8 +140,8 @@ pub data Acts (a : Answer) : State → List ClosedEndpoint → List ControlMove 
   goes : {state next : State} {closed : List ClosedEndpoint} {handed : List ControlMove} → Quiet state next → Acts a next closed handed → Acts a state closed handed
   opens : {state next : State} {closed : List ClosedEndpoint} {handed : List ControlMove} (e : ℕ) (x : Endpoint) → endpoint_under state (Own e) ≡ None → x.state.pending ≡ [] → x.taken ≡ []
       → Changes state next state.host (Own e) (Some x) → Acts a next closed handed → Acts a state closed handed
-  submits : {state next : State} {closed : List ClosedEndpoint} {handed : List ControlMove} (e : EndpointName) (b : BufferState) (h : Endpoint) → endpoint_under state e ≡ Some h
-      → Changes state next (entered host_calls state.host h.state b) e (Some (with_submission (tickets_of state) h)) → Acts a next closed handed → Acts a state closed handed
+  submits : {state next : State} {closed : List ClosedEndpoint} {handed : List ControlMove} (e : EndpointName) (deadline : Option ℕ) (b : BufferState) (h : Endpoint) → endpoint_under state e ≡ Some h
+      → Changes state next (entered host_calls state.host h.state deadline b) e (Some (with_submission (tickets_of state) h)) → Acts a next closed handed → Acts a state closed handed
   reads : {state next : State} {closed : List ClosedEndpoint} {handed : List ControlMove} (e : EndpointName) (t : ℕ) (ts : List ℕ) (h : Endpoint) → IsStream e → endpoint_under state e ≡ Some h → h.state.pending ≡ t ∷ ts
       → says_done a.line ≡ false → Changes state next (host_taken state.host t) e (Some (front_taken t h)) → Acts a next closed handed → Acts a state closed handed
   starts : {state : State} {closed : List ClosedEndpoint} {handed : List ControlMove} (n : ℕ) (request : TransferData) (timeout device : ℕ) → is_free state.futures n ≡ true
@@ -298,7 +298,7 @@ try-does call (Ok x) refused does = does x
 rest-does : {a : Answer} {state : State} {closed : List ClosedEndpoint} {handed : List ControlMove} → Acts a state closed handed → Acts (then_applied a) state closed handed
 rest-does (goes quiet rest) = goes quiet (rest-does rest)
 rest-does (opens e x free none zero_ changes rest) = opens e x free none zero_ changes (rest-does rest)
-rest-does (submits e b h here changes rest) = submits e b h here changes (rest-does rest)
+rest-does (submits e deadline b h here changes rest) = submits e deadline b h here changes (rest-does rest)
 rest-does (reads e t ts h stream here front other changes rest) = reads e t ts h stream here front other changes (rest-does rest)
 rest-does (starts n request timeout device free rest) = starts n request timeout device free (rest-does rest)
 rest-does (controls host one adds rest) = controls host one adds (rest-does rest)

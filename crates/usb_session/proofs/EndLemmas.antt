@@ -7,7 +7,7 @@ use Rattle.std.proofs.lemmas.Option.{none-some, same_Some}
 use Rattle.usb_device_endpoint.specs.EndpointState.{EndpointState}
 use Rattle.usb_device_host.specs.HostState.{HostState}
 use Rattle.usb_device_ledger.specs.Devices.{is_held}
-use Rattle.usb_device.specs.DeviceLaws.{holds_at}
+use Rattle.usb_device_host.specs.DeviceLaws.{holds_at}
 use Rattle.std.specs.Prelude.{option_and_then, nat_le, if◌then◌else◌}
 use Rattle.usb_device_ledger.specs.Entries.{ClaimedInterface}
 use Rattle.usb_device_ledger.specs.declared.opened.OpenDevice.{OpenDevice}
@@ -23,7 +23,7 @@ use Rattle.usb_device.proofs.OwnerLawLists.{any-found}
 use Rattle.usb_kernel.specs.ClaimLaws.{is_claimed}
 use Rattle.usb_device_host.specs.HostBus.{owner_at}
 use Rattle.usb_device_ledger.proofs.DeviceLemmas.{counts-same}
-use Rattle.usb_device.proofs.HeldDevices.{held-goes}
+use Rattle.usb_device_host.proofs.HeldDevices.{held-goes}
 use Rattle.usb_device_host.proofs.HostFrames.{uses-discarded, uses-reaped}
 use Rattle.usb_device_host.proofs.WaitFrames.{line-trans, line-keeps, went-uses}
 use Rattle.usb_session_calls.proofs.NamedKeys.{named-none}

@@ -37,7 +37,7 @@ use Rattle.usb_session_calls.specs.State.{State, Endpoint, tickets_of, with_host
 use Rattle.usb_session_calls.specs.Answer.{condition_answer, ok_answer, silent, if_open}
 use Rattle.usb_session_calls.specs.OpenAt.{InterfaceAt, interface_at}
 use Rattle.usb_session_calls.specs.Endpoints.{new_endpoint, endpoint_as, endpoint_answer}
-use Rattle.usb_session_calls.specs.Submits.{with_submission, submitted, submit_on, has_direction}
+use Rattle.usb_session_calls.specs.Submits.{with_submission, deadline_by, submitted, submit_on, has_direction}
 use Rattle.usb_session_calls.specs.Polls.{front_taken, taken_from, took, poll_on}
 use Rattle.usb_session_calls.specs.Waits.{wait_on}
 use Rattle.usb_session_calls.specs.Transfers.{bars_transfer, with_taken, transfer_made, transfer_on}
@@ -72,9 +72,11 @@ changed-own : (state : State) (f : Endpoint → Endpoint) (e : ℕ) (h : Endpoin
 changed-own state f e h here host = own-changes state host (change_named f state.endpoints e) e (Some (f h)) (change-changes f state.endpoints e h here)
 
 -- a ticket is submitted
-submit_on-does : (state : State) (direction : Direction) (e : ℕ) (b : BufferState) (h : Endpoint) → named state.endpoints e ≡ Some h → Does state (submit_on state direction e b h)
-submit_on-does state direction e b h here = bar-does (λ no_. submits (Own e) b h here
-    (changed-own state (with_submission (tickets_of state)) e h here (entered host_calls state.host h.state b)) (ok-does (submitted state e b h)))
+submit_on-does : (state : State) (direction : Direction) (e : ℕ) (b : BufferState) (timeout : Option ℕ) (h : Endpoint) → named state.endpoints e ≡ Some h → Does state (submit_on state direction e b timeout h)
+submit_on-does state direction e b timeout h here =
+    let deadline = deadline_by state.host timeout in
+    bar-does (λ no_. submits (Own e) deadline b h here
+    (changed-own state (with_submission (tickets_of state)) e h here (entered host_calls state.host h.state deadline b)) (ok-does (submitted state e b timeout h)))
 
 -- the oldest pending ticket is taken
 first-of : (l : List ℕ) (t : ℕ) → slice_get l 0 ≡ Some t → (ts : List ℕ) × (l ≡ t ∷ ts)
@@ -116,17 +118,17 @@ some-of (Some x) is = (x, refl)
 transfer_made-does : (state : State) (e : ℕ) (b : BufferState) (timeout : ℕ) (h : Endpoint) → named state.endpoints e ≡ Some h → h.state.pending ≡ [] → Does state (transfer_made state e b timeout h)
 transfer_made-does state e b timeout h here none =
     let n = tickets_of state in
-    let sent = submitted state e b h in
+    let sent = submitted state e b None h in
     let last = with_host sent (blocked host_calls n timeout sent.host) in
-    let one = entered-count state.host h.state b in
+    let one = entered-count state.host h.state None b in
     let found = some-of (transfer_completion last.host.kernel.past n) (blocked-found sent.host n timeout (omega (arith, one.past))) in
-    let first = changed-own state (with_submission n) e h here (entered host_calls state.host h.state b) in
+    let first = changed-own state (with_submission n) e h here (entered host_calls state.host h.state None b) in
     let here_last = changed-own state (with_submission n) e h here last.host in
     let whole = changed-own state (with_taken n) e h here (host_taken last.host n) in
     let front : (with_submission n h).state.pending ≡ n ∷ [] = ap (λ (l : List ℕ). l ++ n ∷ []) none in
     let taken : with_taken n h ≡ front_taken n (with_submission n h) =
     ap (λ (l : List ℕ). record h { state = record h.state { pending = l }; taken = h.taken ++ n ∷ [] }) (none ∙ sym (ap (λ (l : List ℕ). drop 1 l) front)) in
-    submits (Own e) b h here first (goes {next = last} (record { keeps = on-blocked sent.host n timeout; count = blocked-count sent.host n timeout; endpoints = λ d. refl; names = refl; futures = refl })
+    submits (Own e) None b h here first (goes {next = last} (record { keeps = on-blocked sent.host n timeout; count = blocked-count sent.host n timeout; endpoints = λ d. refl; names = refl; futures = refl })
     (takes {state = last} {next = (transfer_made state e b timeout h).state} (Own e) n [] (with_submission n h) found.0 first.endpoints.here front found.1 (ap waited_line found.1)
     (subst (λ g. Changes last (transfer_made state e b timeout h).state (host_taken last.host n) (Own e) (Some g)) taken (then-changes here_last whole)) (quiet-same (transfer_made state e b timeout h).state)))
 
@@ -137,8 +139,8 @@ transfer_on-does state direction e b timeout h here =
 -- so each call at an endpoint that is open
 called-does : (state : State) (e : ℕ) (h : Endpoint) (call : EndpointCall) → named state.endpoints e ≡ Some h → Does state (endpoint_called call state e h)
 unfolding count_line
-called-does state e h (SubmitIn n) here = submit_on-does state In e (in_buffer n) h here
-called-does state e h (SubmitOut bytes) here = submit_on-does state Out e (out_buffer bytes) h here
+called-does state e h (SubmitIn n timeout) here = submit_on-does state In e (in_buffer n) timeout h here
+called-does state e h (SubmitOut bytes timeout) here = submit_on-does state Out e (out_buffer bytes) timeout h here
 called-does state e h Pending here = told-does state (count_line (length h.state.pending)) refl
 called-does state e h Poll here = poll_on-does state e h (slice_get h.state.pending 0) here refl
 called-does state e h (Wait timeout) here = wait_on-does state e timeout h (slice_get h.state.pending 0) here refl

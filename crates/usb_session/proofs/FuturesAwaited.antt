@@ -6,7 +6,8 @@ use Rattle.usb_kernel.specs.Extends.{Extends}
 use Rattle.usb_xfer.specs.declared.transfer.TransferData.{TransferData}
 use Rattle.usb_device_endpoint.specs.Waits.{is_reaped}
 use Rattle.usb_device_host.specs.HostState.{HostState}
-use Rattle.usb_device_host.specs.Controls.{control_submission, deadline_after}
+use Rattle.usb_device_host.specs.Controls.{control_submission}
+use Rattle.usb_kernel.specs.Timers.{deadline_after}
 use Rattle.usb_device_host.specs.HostAwaits.{deadline_of}
 use Rattle.usb_device_host.specs.HostCalls.{host_calls}
 use Rattle.usb_device_host.proofs.ControlLemmas.{started-due}
@@ -129,8 +130,8 @@ acts-parting {a} {state} (opens {next = mid} e x free none fresh changes rest) i
     let step = step-open e x inv free none fresh changes in
     let first = parting-same state mid changes.futures step.goes.past all in
     parting-then first (acts-parting rest step.inv first.awaits)
-acts-parting {a} {state} (submits {next = mid} e b h here changes rest) inv all =
-    let step = step-push e b h inv here changes in
+acts-parting {a} {state} (submits {next = mid} e deadline b h here changes rest) inv all =
+    let step = step-push e deadline b h inv here changes in
     let first = parting-same state mid changes.futures step.goes.past all in
     parting-then first (acts-parting rest step.inv first.awaits)
 acts-parting {a} {state} (starts n request timeout device free rest) inv all =

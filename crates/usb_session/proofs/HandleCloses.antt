@@ -2,7 +2,7 @@
 use Rattle.std.proofs.Common.{◌≡◌, ℕ, List, Option, Some, None, refl, ◌∙◌}
 use Rattle.usb_device_host.specs.HostState.{HostState}
 use Rattle.usb_device_host.specs.Handles.{device_closed, handle_closed}
-use Rattle.usb_device.specs.HandleStates.{InterfaceState}
+use Rattle.usb_device_host.specs.HandleStates.{InterfaceState}
 use Rattle.usb_session_calls.specs.Names.{named, freed}
 use Rattle.usb_session_calls.specs.State.{State}
 use Rattle.usb_session.specs.Ends.{interface_closed, name_closed}

@@ -35,7 +35,6 @@ use Rattle.usb_session.specs.Below.{below, given_below}
 use Rattle.usb_session.specs.Crowded.{bars_line}
 use Rattle.usb_session.specs.Ends.{readers_closed, writers_closed, endpoints_closed, future_closed_at, future_closed_under, futures_closed, interfaces_closed, devices_closed, all_closed, ended}
 use Rattle.usb_session.specs.Output.{start, behind, last_host, final_host}
-use Rattle.usb_session.specs.Accounts.{Accounted}
 use Rattle.usb_session.specs.Behind.{GoesOnTo, ScriptsGoOn}
 use Rattle.usb_session.specs.Served.{ClosedEndpoint, closed_endpoints, IsServedInOrder, EndpointsAreServedInOrder, ScriptsAreCounted, closed_as, tickets_of_all, closed_under, closed_by_call, closed_by, read_at_end, written_at_end, closed_at_end, closed_endpoints_from, control_ticket, control_tickets_from, control_tickets, lines_behind}
 use Rattle.usb_session.specs.Fates.{fate_lines, fate_lines_from}
@@ -47,7 +46,6 @@ use Rattle.usb_session.proofs.EndpointLines.{closed-does, closed-shuts}
 use Rattle.usb_session.proofs.ReaderDoes.{reader_closed-does, reader_closed-shuts}
 use Rattle.usb_session.proofs.WriterDoes.{writer_closed-does, writer_closed-shuts}
 use Rattle.usb_session.proofs.DeviceLines.{handles-quiet}
-use Rattle.usb_session.proofs.AccountLemmas.{accounted-start, accounted-answer}
 use Rattle.usb_session_calls.proofs.EndpointNameLemmas.{Changed, cases_name, changed-gone}
 use Rattle.usb_session.proofs.RunLemmas.{none-start, no-future_start}
 use Rattle.usb_session.proofs.TimesLemmas.{times, times-append, counts-times, among, among-within, times_open, IsAmong, among-names, open-none, awaited-none}
@@ -357,10 +355,6 @@ inv-behind : (state : State) (items : List Item) → Inv state → Inv (behind s
 inv-behind state [] inv = inv
 inv-behind state (item ∷ items) inv = inv-behind (answer state item).state items (answer-step state (λ e. []) item inv).inv
 
-accounted-behind : (state : State) (items : List Item) → Accounted state → Accounted (behind state items)
-accounted-behind state [] a = a
-accounted-behind state (item ∷ items) a = accounted-behind (answer state item).state items (accounted-answer state item a)
-
 leaves-end : (o p : Option HostTicket) (end : TicketEnd) → Leaves o p → option_and_then ended_at o ≡ Some end → option_and_then ended_at p ≡ Some end
 leaves-end None p end leaves is = absurd (none-some end is)
 leaves-end (Some (HeldBy hold)) p end leaves is = absurd (none-some end is)
@@ -395,5 +389,4 @@ scripts-go_on =
     record {
       line = λ items before item. goes-to (answer-step (behind (start items) before) (λ e. []) item (inv-of items before)).goes;
       end = λ items before. goes-to (runs (behind (start items) before) (λ e. []) [] (inv-of items before)).goes;
-      accounted = λ items before. accounted-behind (start items) before (accounted-start items);
     }

@@ -16,7 +16,7 @@ use Rattle.usb_device_host.specs.EndpointOpens.{host_asked, with_endpoint}
 use Rattle.usb_device_host.specs.OnInterfaces.{alt_setting_set}
 use Rattle.usb_device_host.proofs.FollowLemmas.{on-finished, on-handle_closed}
 use Rattle.usb_device_host.proofs.WaitFrames.{went-rest}
-use Rattle.usb_device.specs.HandleStates.{InterfaceState}
+use Rattle.usb_device_host.specs.HandleStates.{InterfaceState}
 use Rattle.usb_device.specs.Futures.{FutureState}
 use Rattle.usb_device.proofs.FutureFrames.{stays-closed}
 use Rattle.usb_io.specs.Readers.{ReaderState}

@@ -1,4 +1,3 @@
-pub mod AccountLemmas
 pub mod CallLeads
 pub mod CallLines
 pub mod CloseAnswers
@@ -60,6 +59,7 @@ pub mod FuturesAwaited
 pub mod ControlCame
 pub mod ControlsLaw
 pub mod WorkedPrinted
+pub mod WorkedDeadlines
 pub mod HandedReaders
 pub mod HandedScripts
 pub mod WorkedHanded

@@ -10,14 +10,14 @@ use Rattle.usb_device_endpoint.specs.Handles.{Stands}
 use Rattle.usb_device_ledger.specs.declared.opened.OpenDevice.{OpenDevice}
 use Rattle.usb_device_host.specs.HostState.{HostState}
 use Rattle.usb_device_host.specs.HostBus.{bus_of}
-use Rattle.usb_device.specs.HandleStates.{StandsDevice}
+use Rattle.usb_device_host.specs.HandleStates.{StandsDevice}
 use Rattle.usb_device_host.specs.CallErrors.{Leaves}
 use Rattle.usb_device_host.specs.Opens.{host_opened, open_key}
 use Rattle.usb_device_host.proofs.Left.{left}
 use Rattle.usb_device_host.proofs.InterfaceFrames.{opened-is}
 use Rattle.usb_device_ledger.proofs.DeviceLemmas.{counts-same}
 use Rattle.usb_device_host.proofs.ClaimFrames.{goes-same}
-use Rattle.usb_device.proofs.HeldDevices.{OpensOne, opens-one, opens-none, held-opened}
+use Rattle.usb_device_host.proofs.HeldDevices.{OpensOne, opens-one, opens-none, held-opened}
 use Rattle.usb_session_calls.specs.Names.{is_free, set_name}
 use Rattle.usb_session_calls.specs.State.{State, with_host}
 use Rattle.usb_session.specs.Opens.{open_answer, opened_as}

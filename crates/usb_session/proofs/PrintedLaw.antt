@@ -57,7 +57,7 @@ acts-printed {a} {state} last on (goes {next = mid} quiet rest) c is = took-befo
 acts-printed {a} last on (reads e t ts h stream here front other changes rest) c is = absurd (not-done a.line c other is)
 acts-printed {a} last on (moves from to h g here free same read other moved quiet) c is = absurd (not-done a.line c other is)
 acts-printed {a} {state} last on (opens {next = mid} e x free empty fresh changes rest) c is = took-before last state mid a (none-opened (Own e) x free fresh changes) (acts-printed last on rest c is)
-acts-printed {a} {state} last on (submits {next = mid} e b h here changes rest) c is = took-before last state mid a (none-submitted e (tickets_of state) h here changes) (acts-printed last on rest c is)
+acts-printed {a} {state} last on (submits {next = mid} e deadline b h here changes rest) c is = took-before last state mid a (none-submitted e (tickets_of state) h here changes) (acts-printed last on rest c is)
 acts-printed {a} {state} last on (starts n request timeout device free rest) c is = took-before last state (with_future state n request timeout device) a (λ d. none-same state (with_future state n request timeout device) d refl) (acts-printed last on rest c is)
 acts-printed {a} {state} last on (controls host one adds rest) c is = took-before last state (with_host state host) a (λ d. none-same state (with_host state host) d refl) (acts-printed last on rest c is)
 acts-printed {a} {state} last on (frees n f host here parts rest) c is = took-before last state (without_future_of state host n) a (λ d. none-same state (without_future_of state host n) d refl) (acts-printed last on rest c is)

@@ -3,8 +3,10 @@ use Rattle.std.proofs.Common.{◌≡◌, ℕ, ◌-◌, Bool, true, false, List, 
 use Rattle.std.specs.Option.{option_map}
 use Rattle.std.specs.Prelude.{nat_lt}
 use Rattle.std.proofs.lemmas.Bool.{cond_both}
+use Rattle.usb_error.specs.Errors.{clear_halt_error}
+use Rattle.usb_device_endpoint.specs.CallErrors.{or_error}
 use Rattle.usb_device_host.specs.HostState.{HostState}
-use Rattle.usb_device_host.specs.HostCalls.{host_calls}
+use Rattle.usb_device_host.specs.HostCalls.{host_halt_result, host_halt_cleared, host_calls}
 use Rattle.usb_device_host.proofs.CountLemmas.{all_discarded-count}
 use Rattle.usb_device_host.proofs.FollowLemmas.{on-all_discarded}
 use Rattle.usb_io.specs.Readers.{ReaderState, fresh_reader, fresh_buffer, with_read, is_end}
@@ -20,20 +22,23 @@ use Rattle.usb_script_words.specs.declared.framing.Framing.{Framing}
 use Rattle.usb_session_text.specs.Calls.{ok_line}
 use Rattle.usb_session_calls.specs.Names.{named, freed, set_name, change_named}
 use Rattle.usb_session_calls.specs.declared.call.ReaderCall.{ReaderCall}
-use Rattle.usb_session_calls.specs.declared.call.ReaderCall.TheVariants.{Read, PollRead, FillBuf, PollFillBuf, Consume, IsEnd, ConsumeEnd, SetNumTransfers, SetReadTimeout, Cancel}
+use Rattle.usb_session_calls.specs.declared.call.ReaderCall.TheVariants.{Read, PollRead, FillBuf, PollFillBuf, Consume, IsEnd, ConsumeEnd, SetNumTransfers, SetReadTimeout, Cancel, ClearHalt}
 use Rattle.usb_session_calls.specs.CalledReaders.{reader_called, on_reader}
 use Rattle.usb_session_calls.specs.State.{State, Reader, tickets_at, endpoint_of_reader, tickets_of, with_host}
 use Rattle.usb_session_calls.specs.EndpointNames.{EndpointName, Own, OfReader, OfWriter, endpoint_under}
 use Rattle.usb_session_calls.proofs.NameLemmas.{free-none, length-change_named}
 use Rattle.usb_session_calls.proofs.EndpointNameLemmas.{Changed, set-changes, freed-changes, change-changes}
 use Rattle.usb_session_calls.specs.Readers.{nothing_consumed, with_none, taken_by_call, with_reader, reader_answer, without_reader, inner_answer, called, with_count, num_on, closed_reader, reader_closed_at, reader_closed, close_reader_answer}
-use Rattle.usb_session_streams.specs.ReaderCalls.{given_by}
+use Rattle.usb_session_streams.specs.ReaderCalls.{given_by, halt_came}
+use Rattle.usb_session_streams.proofs.Halted.{halted-rest}
+use Rattle.usb_session_calls.specs.Halts.{halt_line, reader_halt_cleared}
+use Rattle.usb_session_calls.proofs.DeviceHosts.{halt-aside}
 use Rattle.usb_session_calls.specs.Reads.{is_until_short, consumed_with, given_line, polled_given_line, bars_read, read_as, filled_as, read_on, fill_on, read_off}
 use Rattle.usb_session_calls.specs.Answer.{Answer, answer_with, condition_answer, ok_answer, silent, if_open}
 use Rattle.usb_device_endpoint.specs.Closes.{after_close}
 use Rattle.usb_session.specs.Served.{closed_under}
-use Rattle.usb_session.proofs.CallLeads.{Leads, leads-start, leads-send, leads-wait, leads-take, called-acts}
-use Rattle.usb_session.proofs.Does.{Shuts, Acts, Changes, Quiet, Does, says_done, ends, moves, kept-change, own-changes, reader-changes, quiet-aside, quiet-same, told-does, named-does, closing-does, free-does, bar-does}
+use Rattle.usb_session.proofs.CallLeads.{Leads, leads-start, leads-send, leads-wait, leads-aside, leads-take, called-acts}
+use Rattle.usb_session.proofs.Does.{Shuts, Acts, Changes, Quiet, Does, says_done, ends, moves, kept-change, own-changes, reader-changes, quiet-aside, quiet-same, told-does, named-does, closing-does, free-does, bar-does, result-other}
 
 -- a reader is made of an endpoint, and the endpoint comes back
 pub reader-does : (state : State) (r e size : ℕ) → Does state (reader_answer state r e size)
@@ -183,6 +188,21 @@ num_on-does state r n x is =
     called-does state r x x.consumed [] (with_count n x.state) (filled_to host_calls (n - 1) first) ok_line false 0 is refl refl
     (λ keeps start. filled-keeps host_calls false 0 _ keeps (n - 1) first start))
 
+-- its halt is cleared
+halt-does : (state : State) (r : ℕ) (x : Reader) → named state.readers r ≡ Some x → Does state (reader_halt_cleared state r x)
+halt-does state r x is =
+    let e = x.state.endpoint in
+    let a = reader_halt_cleared state r x in
+    let h = endpoint_of_reader x in
+    let here = ap (option_map endpoint_of_reader) is in
+    let answer = host_halt_result state.host e.device e.address in
+    let aside = halt-aside state.host e.device e.address in
+    let host = host_halt_cleared state.host e.device e.address in
+    called-does state r x x.consumed [] x.state (halt_came (reading state.host x.state)) (halt_line state.host e) false 0 is (result-other (or_error clear_halt_error answer)) refl
+    (λ keeps start.
+    subst (Leads a state (OfReader r) h host) (sym (halted-rest answer x.state))
+    (leads-aside a state (OfReader r) h tt refl here (result-other (or_error clear_halt_error answer)) state.host host e aside.past aside.handles.tickets start))
+
 -- each call
 reader_called-does : (state : State) (r : ℕ) (x : Reader) (call : ReaderCall) → named state.readers r ≡ Some x → Does state (reader_called call state r x)
 reader_called-does state r x (Read framing most) is = read_on-does state framing r most x.state.timeout (given_line read_line) x is (given-other read_line read-other)
@@ -200,6 +220,7 @@ reader_called-does state r x (SetNumTransfers n) is = num_on-does state r n x is
 reader_called-does state r x (SetReadTimeout timeout) is = ends refl (kept-quiet _ state r x is refl)
 reader_called-does state r x Cancel is =
     ends refl (record { keeps = on-all_discarded state.host x.state.endpoint.pending; count = all_discarded-count state.host x.state.endpoint.pending; endpoints = endpoint-kept with_none state r x is refl; names = (kept-quiet with_none state r x is refl).names; futures = refl })
+reader_called-does state r x ClearHalt is = halt-does state r x is
 
 pub on_reader-does : (state : State) (r : ℕ) (call : ReaderCall) → Does state (on_reader state r call)
 unfolding on_reader

@@ -17,7 +17,7 @@ use Rattle.usb_io.specs.Reads.{Reading, reading, filled_to}
 use Rattle.usb_io.specs.Streams.{Mark, Byte, End}
 use Rattle.usb_io.specs.declared.fault.ReadFault.{ReadFault}
 use Rattle.usb_io.specs.Answers.{fill_came, read_came}
-use Rattle.usb_session_streams.specs.ReaderCalls.{given_by, ReaderCall as StreamCall, Fill, Read, Submit, read_by, handed_by, is_framed}
+use Rattle.usb_session_streams.specs.ReaderCalls.{given_by, ReaderCall as StreamCall, Fill, Read, Submit, ClearHalt, read_by, handed_by, is_framed}
 use Rattle.usb_session_streams.proofs.ReadsGoOn.{reader_calls-go_on}
 use Rattle.usb_session_streams.specs.Reads.{read_line, buffer_line, consumed_end_line}
 use Rattle.usb_script_words.specs.declared.framing.Framing.{Framing}
@@ -36,6 +36,7 @@ use Rattle.usb_session_calls.specs.State.{State, Endpoint, Reader, tickets_at, t
 use Rattle.usb_session_calls.specs.Answer.{Answer, answer_with, condition_answer, ok_answer}
 use Rattle.usb_session_calls.specs.Submits.{has_direction}
 use Rattle.usb_session_calls.specs.Readers.{nothing_consumed, with_reader, reader_on, reader_answer, without_reader, inner_answer, taken_by_call, called, with_count, with_timeout, with_none, num_on, timeout_on, cancel_reader_on, closed_reader, close_reader_answer}
+use Rattle.usb_session_calls.specs.Halts.{reader_halt_cleared}
 use Rattle.usb_session_calls.specs.Reads.{is_until_short, consumed_with, bars_read, given_line, polled_given_line, read_as, filled_as, read_on, fill_on, read_off, consume_on, consume_end_on}
 use Rattle.usb_session_calls.specs.Steps.{with_steps, steps_applied, then_applied}
 use Rattle.usb_session_calls.specs.CalledReaders.{reader_called, on_reader}
@@ -197,6 +198,10 @@ module _ (At : List Event → Reader → Type 0) (Legal : List Event → Type 0)
         bar-keeps Keeps state (λ legal. f) (nat_lt 64 n || bars_need state.host.kernel.past (length x.state.endpoint.pending) (n - 1 - length x.state.endpoint.pending)) (ok_answer (called state r x.consumed [] left))
         (called-keep n (Submit (n - 1)) x.consumed (consumes-none x.consumed))
 
+    -- what clears its halt
+    halt-keeps : Keeps (reader_halt_cleared state r x).state
+    halt-keeps = called-keep x.state.n ClearHalt x.consumed (consumes-none x.consumed)
+
     -- what takes off what stands
     off-keep : (framing : Framing) (items : List Mark) (bytes : List ℕ) (left : ReaderState) → At state.host.kernel.past (off_at framing items bytes left x) → All (read_off state framing r x items bytes left)
     off-keep framing items bytes left here =
@@ -239,6 +244,7 @@ module _ (At : List Event → Reader → Type 0) (Legal : List Event → Type 0)
     reader_called-keeps (readers.SetNumTransfers n) = num-keeps n
     reader_called-keeps (readers.SetReadTimeout timeout) = timeout-keeps timeout
     reader_called-keeps readers.Cancel = cancel-keeps
+    reader_called-keeps readers.ClearHalt = halt-keeps
 
   on_reader-keeps : (state : State) (r : ℕ) (call : ReaderCall) → All state → Keeps (on_reader state r call).state
   unfolding on_reader

@@ -19,7 +19,7 @@ use Rattle.usb_device_host.specs.HostBus.{key_at, owner_at}
 use Rattle.usb_device.specs.OwnerLaws.{ClaimsAreOwned}
 use Rattle.usb_device.proofs.OwnerLaw.{claims_stay_owned}
 use Rattle.usb_session_streams.specs.Accounts.{TicketsAreCounted}
-use Rattle.usb_device.specs.HandleStates.{InterfaceState}
+use Rattle.usb_device_host.specs.HandleStates.{InterfaceState}
 use Rattle.usb_device.specs.Futures.{FutureState}
 use Rattle.usb_script_lines.specs.declared.item.Item.{Item}
 use Rattle.usb_script_lines.specs.ItemKinds.{place_count}

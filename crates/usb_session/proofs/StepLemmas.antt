@@ -159,12 +159,12 @@ step-open {state} e x inv free none fresh changes =
     (λ t. let put = open-put t changes x free refl in let parts = times-parts x t in let first : times t x.taken ≡ 0 = ap (times t) fresh in let rest : times t x.state.pending ≡ 0 = ap (times t) none in omega arith) (All-nil (Closes state.host)))
 
 -- a ticket is submitted
-pub step-push : {state next : State} (e : EndpointName) (b : BufferState) (h : Endpoint) → Inv state → endpoint_under state e ≡ Some h → Changes state next (entered host_calls state.host h.state b) e (Some (with_submission (tickets_of state) h)) → Step state next [] []
-step-push {state} e b h inv here changes =
+pub step-push : {state next : State} (e : EndpointName) (deadline : Option ℕ) (b : BufferState) (h : Endpoint) → Inv state → endpoint_under state e ≡ Some h → Changes state next (entered host_calls state.host h.state deadline b) e (Some (with_submission (tickets_of state) h)) → Step state next [] []
+step-push {state} e deadline b h inv here changes =
     let n = tickets_of state in
-    let host = entered host_calls state.host h.state b in
-    let adds = adds-entered state.host h.state b in
-    let count = entered-count state.host h.state b in
+    let host = entered host_calls state.host h.state deadline b in
+    let adds = adds-entered state.host h.state deadline b in
+    let count = entered-count state.host h.state deadline b in
     let many : length (tickets host.kernel.past) ≡ suc n = omega (arith, count.past) in
     let new : IsHeld host n = record { hold = adds.hold; is = ap (slice_get host.tickets) (sym inv.count) ∙ adds.last } in
     at-host (λ s. Step state s [] []) changes
@@ -346,7 +346,7 @@ acts-step (goes quiet rest) inv = let first = step-quiet inv quiet in step-then 
 acts-step (reads e t ts h stream here front other changes rest) inv = let first = step-take e t ts h inv here front changes in step-then first (acts-step rest first.inv)
 acts-step (moves from to h g here free same read other moved quiet) inv = let first = step-move from to h g inv here free same read moved in step-after first (step-quiet first.inv quiet)
 acts-step (opens e x free none fresh changes rest) inv = let first = step-open e x inv free none fresh changes in step-then first (acts-step rest first.inv)
-acts-step (submits e b h here changes rest) inv = let first = step-push e b h inv here changes in step-then first (acts-step rest first.inv)
+acts-step (submits e deadline b h here changes rest) inv = let first = step-push e deadline b h inv here changes in step-then first (acts-step rest first.inv)
 acts-step {state} (starts n request timeout device free rest) inv = let first = step-start state n request timeout device inv free in step-then first (acts-step rest first.inv)
 acts-step {state} (controls host one adds rest) inv = let first = step-control state host inv one (adds inv.count) in step-then first (acts-step rest first.inv)
 acts-step {a} {state} {closed} (frees {handed = moves_} n f host here parts rest) inv =

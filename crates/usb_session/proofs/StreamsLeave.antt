@@ -90,6 +90,7 @@ reader_called-leaves readers.IsEnd state r x = refl
 reader_called-leaves readers.ConsumeEnd state r x = cond_both (is_end x.state) _ _ (λ (a : Answer). SameWriters state a.state) (λ is. refl) (λ no_. refl)
 reader_called-leaves (readers.SetReadTimeout timeout) state r x = refl
 reader_called-leaves readers.Cancel state r x = refl
+reader_called-leaves readers.ClearHalt state r x = refl
 reader_called-leaves call state r x = bar-keeps (SameWriters state) state refl _ _ refl
 
 on_reader-leaves : (state : State) (r : ℕ) (call : ReaderCall) → SameWriters state (on_reader state r call).state

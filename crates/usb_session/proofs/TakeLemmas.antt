@@ -93,8 +93,8 @@ acts-takes : {a : Answer} {state : State} {closed : List ClosedEndpoint} {handed
 acts-takes last (goes quiet rest) inv d g is unread = takes-before (none-quiet d quiet) (acts-takes last rest (step-quiet inv quiet).inv d g is unread)
 acts-takes last (opens e x free empty fresh changes rest) inv d g is unread =
     takes-before (none-opened (Own e) x free fresh changes d) (acts-takes last rest (step-open e x inv free empty fresh changes).inv d g is unread)
-acts-takes {state} last (submits e b h here changes rest) inv d g is unread =
-    takes-before (none-submitted e (tickets_of state) h here changes d) (acts-takes last rest (step-push e b h inv here changes).inv d g is unread)
+acts-takes {state} last (submits e deadline b h here changes rest) inv d g is unread =
+    takes-before (none-submitted e (tickets_of state) h here changes d) (acts-takes last rest (step-push e deadline b h inv here changes).inv d g is unread)
 acts-takes last (reads e t ts h stream here front other changes rest) inv d g is unread =
     elim (cases_name d e) [
       | inl same ↦ absurd (both-reads g (last.read d g is (subst IsStream (sym same) stream)) unread)
@@ -139,7 +139,7 @@ acts-done {a} {state} (goes {next = mid} quiet rest) c is = one-before state mid
 acts-done {a} (reads e t ts h stream here front other changes rest) c is = absurd (not-done a.line c other is)
 acts-done {a} (moves from to h g here free same read other moved quiet) c is = absurd (not-done a.line c other is)
 acts-done {a} {state} (opens {next = mid} e x free empty fresh changes rest) c is = one-before state mid a (none-opened (Own e) x free fresh changes) (acts-done rest c is)
-acts-done {a} {state} (submits {next = mid} e b h here changes rest) c is = one-before state mid a (none-submitted e (tickets_of state) h here changes) (acts-done rest c is)
+acts-done {a} {state} (submits {next = mid} e deadline b h here changes rest) c is = one-before state mid a (none-submitted e (tickets_of state) h here changes) (acts-done rest c is)
 acts-done {a} {state} (starts n request timeout device free rest) c is = one-before state (with_future state n request timeout device) a (λ d. none-same state (with_future state n request timeout device) d refl) (acts-done rest c is)
 acts-done {a} {state} (controls host one adds rest) c is = one-before state (with_host state host) a (λ d. none-same state (with_host state host) d refl) (acts-done rest c is)
 acts-done {a} {state} (frees n f host here parts rest) c is = one-before state (without_future_of state host n) a (λ d. none-same state (without_future_of state host n) d refl) (acts-done rest c is)

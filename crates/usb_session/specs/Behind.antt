@@ -7,15 +7,13 @@ use Rattle.usb_device.specs.EndLaws.{KeepsEnds}
 use Rattle.usb_session.specs.Answers.{answer}
 use Rattle.usb_session.specs.Ends.{ended}
 use Rattle.usb_session.specs.Output.{start, behind}
-use Rattle.usb_session.specs.Accounts.{Accounted}
 
 -- the journal goes on, and a ticket that has its end keeps it
 pub record GoesOnTo (old new : HostState) : Type 0 where
   pub journal : Extends old.kernel.past new.kernel.past
   pub ends : KeepsEnds old new
 
--- so it is over each line of a script, whatever lines came before, and over the end of the session; and behind any lines what endpoints hold is accounted for
+-- so it is over each line of a script, whatever lines came before, and over the end of the session
 pub record ScriptsGoOn : Type 0 where
   pub line : (items before : List Item) (item : Item) → GoesOnTo (behind (start items) before).host (answer (behind (start items) before) item).state.host
   pub end : (items before : List Item) → GoesOnTo (behind (start items) before).host (ended (behind (start items) before))
-  pub accounted : (items before : List Item) → Accounted (behind (start items) before)

@@ -17,7 +17,6 @@ pub mod AnswerLines
 pub mod Output
 pub mod Sums
 pub mod SessionFacts
-pub mod Accounts
 pub mod FinalFates
 pub mod Places
 pub mod Served

@@ -2,7 +2,7 @@
 
 ghost use Rattle.std.specs.Prelude.{◌≡◌, OnOk, IfOk, string_bytes};
 ghost use Rattle.usb_kernel.specs.Extends.{Extends};
-ghost use Rattle.usb_device.specs.HandleStates.{StandsDevice, StandsInterface};
+ghost use Rattle.usb_device_host.specs.HandleStates.{StandsDevice, StandsInterface};
 ghost use Rattle.usb_device.specs.HandleCalls.{ClaimsInterface};
 ghost use Rattle.usb_session_calls.specs.State.{State};
 ghost use Rattle.usb_session_calls.specs.Answered.{Answers};

@@ -11,7 +11,6 @@ ghost use Rattle.usb_session_calls.specs.Names.{named, freed};
 ghost use Rattle.usb_session.specs.Ends.{readers_closed, writers_closed, endpoints_closed, futures_closed, interfaces_closed, devices_closed, ended};
 ghost use Rattle.usb_session_calls.specs.Relation.{Represents};
 ghost use Rattle.usb_session_calls.specs.SessionState.{open_under};
-ghost use Rattle.usb_session.specs.Accounts.{Accounted};
 
 use crate::session::Session;
 use usb_device::Host;
@@ -105,13 +104,11 @@ impl Session {
     /// its end, and the host keeps no open device, no claimed interface and no endpoint.
     pub fn end(self) -> Host
         ensures host { (state : State) → Represents self state → result ≡ ended state }
-        ensures ended { (state : State) → Represents self state → Accounted state →
-            HasEnds result.tickets }
+        ensures ended { HasEnds result.tickets }
         ensures reaped { HasCompletions result.kernel.past }
         ensures lawful { IsLawful result.kernel.past }
         ensures none_open { (d : ℕ) → value_at result.devices d ≡ None }
-        ensures keeps_nothing { (state : State) → Represents self state → Accounted state →
-            KeepsNothing result }
+        ensures keeps_nothing { KeepsNothing result }
         ensures unclaimed { (d n : ℕ) → is_claimed result.kernel.devices d n ≡ false }
         ensures goes_on { Extends self.host.kernel.past result.kernel.past }
     {

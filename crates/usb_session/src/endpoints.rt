@@ -5,7 +5,7 @@ ghost use Rattle.usb_kernel.specs.Extends.{Extends};
 ghost use Rattle.usb_script_words.specs.EndpointKinds.{transfer_type_of, direction_of};
 ghost use Rattle.usb_device_endpoint.specs.Handles.{Stands, KeepsOthers};
 ghost use Rattle.usb_device_host.specs.HostBus.{bus_of};
-ghost use Rattle.usb_device.specs.HandleStates.{StandsInterface};
+ghost use Rattle.usb_device_host.specs.HandleStates.{StandsInterface};
 ghost use Rattle.usb_device_host.specs.EndpointOpens.{OpensEndpoint};
 ghost use Rattle.usb_session_calls.specs.State.{State};
 ghost use Rattle.usb_session_calls.specs.Answered.{Answers};

@@ -1,6 +1,5 @@
 //! Laws of answers. Each is the contract of a function that does nothing.
 
-ghost use Rattle.usb_session.specs.Accounts.{StartIsAccounted, AnswerKeepsAccounts, CloseKeepsAccounts};
 ghost use Rattle.usb_session.specs.FinalFates.{FatesAreFinal, FatesOfScripts};
 ghost use Rattle.usb_session.specs.Places.{PollsAnswerForTheirPlace, PollsOfScriptsAnswer, CompletionsAreTaken};
 ghost use Rattle.usb_session.specs.Behind.{ScriptsGoOn};
@@ -10,15 +9,6 @@ ghost use Rattle.usb_session.specs.WrittenScripts.{ScriptsAreWritten};
 ghost use Rattle.usb_session.specs.Served.{EndpointsAreServedInOrder, ScriptsAreCounted};
 ghost use Rattle.usb_session.specs.Printed.{ScriptsPrintCompletions};
 ghost use Rattle.usb_session.specs.ControlsServed.{ScriptsServeControls};
-
-/// What is held is pending at an endpoint that is open under a name, or is the ticket of a control
-/// transfer that has a name, and the host has as many tickets as the journal: before the first line,
-/// behind each line, and when all is closed. So no ticket is held where no name is open.
-pub fn each_ticket_is_accounted_for()
-    ensures start { StartIsAccounted }
-    ensures answer { AnswerKeepsAccounts }
-    ensures close { CloseKeepsAccounts }
-{}
 
 /// Where each ticket of a host has its end and its completion, as at the end of a session, each fate line names the ticket's final
 /// status and its end. At the end of a script there are as many as its summary counts tickets.
@@ -59,7 +49,7 @@ pub fn controls_are_served()
 {}
 
 /// Over each line of a script and over its end the journal goes on, and a ticket that has its end keeps it. So the completion that
-/// a line prints is the last journal's. Behind any lines what is held is accounted for.
+/// a line prints is the last journal's.
 pub fn scripts_go_on()
     ensures { ScriptsGoOn }
 {}

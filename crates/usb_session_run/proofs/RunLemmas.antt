@@ -19,8 +19,6 @@ use Rattle.usb_session.specs.Fates.{fate_line, fate_lines, fate_lines_from}
 use Rattle.usb_session.specs.Output.{output, output_from, last_host, final_host, start}
 use Rattle.usb_session_calls.specs.Relation.{Represents}
 use Rattle.usb_session.specs.Sums.{counts_of, sum_of}
-use Rattle.usb_session.specs.Accounts.{Accounted}
-use Rattle.usb_session.proofs.AccountLemmas.{accounted-start, accounted-answer}
 use Rattle.usb_session.proofs.FateLemmas.{fate_lines_from-step, fate_lines-all}
 use Rattle.usb_session_run.specs.Causes.{Wrote, WrotePrefix}
 use Rattle.usb_session_run.specs.Running.{AllAnswered}
@@ -30,13 +28,12 @@ use Rattle.usb_session_run.proofs.OutsideLemmas.{Wrote_none, Wrote_more, Wrote_a
 pub record Running (old new : Option (List ℕ)) (s : SessionState) (items : List Item) (whole : List ℕ) (last : HostState) : Type 0 where
   pub now : State
   pub stands : Represents s now
-  pub accounted : Accounted now
   pub wrote : Wrote old new whole (output_from now items)
   pub leads : last_host now items ≡ last
 
 pub running-start : (old : Option (List ℕ)) (s : SessionState) (items : List Item) → Represents s (start items) → Running old old s items (output items) (final_host items)
 unfolding output final_host
-running-start old s items r = record { now = start items; stands = r; accounted = accounted-start items; wrote = Wrote_none old (output_from (start items) items); leads = refl }
+running-start old s items r = record { now = start items; stands = r; wrote = Wrote_none old (output_from (start items) items); leads = refl }
 
 -- the line of the first item that is left
 line-left : (now : State) (item : Item) (items : List Item) (line : List ℕ) → line ≡ (answer now item).line → line ++ output_from (answer now item).state items ≡ output_from now (item ∷ items)
@@ -48,7 +45,6 @@ running-on new s next item items line run answered appends =
     record {
       now = (answer run.now item).state;
       stands = a.state;
-      accounted = accounted-answer run.now item run.accounted;
       wrote = Wrote_more new line (output_from (answer run.now item).state items) run.wrote appends (line-left run.now item items line a.line);
       leads = run.leads;
     }
@@ -65,7 +61,7 @@ running-none old whole = (whole, Wrote_none old whole)
 
 -- all items are answered
 pub running-done : {old new : Option (List ℕ)} (s : SessionState) (items : List Item) → Running old new s [] (output items) (final_host items) → AllAnswered old new s items
-running-done s items run = record { now = run.now; stands = run.stands; accounted = run.accounted; wrote = run.wrote; leads = run.leads }
+running-done s items run = record { now = run.now; stands = run.stands; wrote = run.wrote; leads = run.leads }
 
 -- a call is counted, and what is no call is not
 pub calls-yes : (item : Item) (items : List Item) (b : Bool) → b ≡ is_call item → b ≡ true → count_by is_call (item ∷ items) ≡ 1 + count_by is_call items
@@ -90,16 +86,9 @@ answered-end new host items wrote appends = Wrote_all (Wrote_more new (fate_line
 pub answered-cut : {old mid : Option (List ℕ)} (new : Option (List ℕ)) (host : HostState) (items : List Item) → Wrote old mid (output items) (fate_lines host) → WrotePrefix mid new (fate_lines host) → WrotePrefix old new (output items)
 answered-cut new host items wrote cut = Wrote_prefix new (fate_lines host) [] wrote cut (append-nil (fate_lines host))
 
--- the host at the end is the last of the script, and each of its tickets has its end
+-- the host at the end is the last of the script
 pub host-final : {old new : Option (List ℕ)} (s : SessionState) (host : HostState) (items : List Item) → AllAnswered old new s items → ((state : State) → Represents s state → host ≡ ended state) → host ≡ final_host items
 host-final s host items done ends = ends done.now done.stands ∙ done.leads
-
-pub host-ended : {old new : Option (List ℕ)} (s : SessionState) (host : HostState) (items : List Item) → AllAnswered old new s items → ((state : State) → Represents s state → Accounted state → HasEnds host.tickets) → HasEnds host.tickets
-host-ended s host items done ends = ends done.now done.stands done.accounted
-
--- and it keeps nothing
-pub host-nothing : {old new : Option (List ℕ)} (s : SessionState) (host : HostState) (items : List Item) → AllAnswered old new s items → ((state : State) → Represents s state → Accounted state → KeepsNothing host) → KeepsNothing host
-host-nothing s host items done keeps = keeps done.now done.stands done.accounted
 
 -- the summary of the last host
 pub answered-sum : (host : HostState) (items : List Item) (calls : ℕ) (summary : Summary) → host ≡ final_host items → summary ≡ counts_of calls host → calls ≡ count_by is_call items → summary ≡ sum_of items

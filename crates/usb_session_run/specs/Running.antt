@@ -5,16 +5,14 @@ use Rattle.usb_script_lines.specs.declared.item.Item.{Item}
 use Rattle.usb_session_calls.specs.State.{State}
 use Rattle.usb_session_calls.specs.SessionState.{SessionState}
 use Rattle.usb_session_calls.specs.Relation.{Represents}
-use Rattle.usb_session.specs.Accounts.{Accounted}
 use Rattle.usb_session.specs.Ends.{ended}
 use Rattle.usb_session.specs.Fates.{fate_lines}
 use Rattle.usb_session.specs.Output.{output, final_host}
 use Rattle.usb_session_run.specs.Causes.{Wrote}
 
--- of the output all was written but the fate lines, what endpoints hold is accounted for, and the end of the session leads to the script's last host
+-- of the output all was written but the fate lines, and the end of the session leads to the script's last host
 pub record AllAnswered (old new : Option (List ℕ)) (s : SessionState) (items : List Item) : Type 0 where
   pub now : State
   pub stands : Represents s now
-  pub accounted : Accounted now
   pub wrote : Wrote old new (output items) (fate_lines (ended now))
   pub leads : ended now ≡ final_host items

@@ -16,13 +16,13 @@ use Rattle.usb_session.proofs.HandedScripts.{handed-scripts}
 use Rattle.usb_session.proofs.WrittenLaw.{written-scripts}
 use Rattle.usb_session_run.specs.Stops.{StoppedBehind, KeepsAnswered}
 use Rattle.usb_session_run.proofs.Exchanges.{messages-arrive, messages-keep-arriving}
-use Rattle.usb_session_run.proofs.RunLemmas.{running-none, answered-but_fates, host-final, host-ended, host-nothing, answered-end, answered-cut, answered-sum, always-ok}
+use Rattle.usb_session_run.proofs.RunLemmas.{running-none, answered-but_fates, host-final, answered-end, answered-cut, answered-sum, always-ok}
 use Rattle.usb_session_run.proofs.StopLemmas.{stopped-ended, stopped-keeps, final-keeps, some-has, always-on_ok}
 use Rattle.usb_session_run.proofs.run.answer_items.Goals as goal
 
 pub write_summary-result-requires : goal.write_summary-result-requires
 write_summary-result-requires g c =
-    record { ended = host-ended c.answer_each.new.session c.end-host.result c.args.items.items c.in-Ok-answer_each.ensures.ok c.end-host.ensures.ended }
+    record { ended = c.end-host.ensures.ended }
 
 pub answer_each-requires-clause-room : goal.answer_each-requires-clause-room
 answer_each-requires-clause-room g c =
@@ -47,7 +47,7 @@ returns-in-Ok-answer_each-clause-summary g c =
 pub returns-in-Ok-answer_each-clause-ended : goal.returns-in-Ok-answer_each-clause-ended
 returns-in-Ok-answer_each-clause-ended g c =
     let final = host-final c.answer_each.new.session c.end-host.result c.args.items.items c.in-Ok-answer_each.ensures.ok c.end-host.ensures.host in
-    let ends = subst (λ (h : HostState). HasEnds h.tickets) (final) (host-ended c.answer_each.new.session c.end-host.result c.args.items.items c.in-Ok-answer_each.ensures.ok c.end-host.ensures.ended) in
+    let ends = subst (λ (h : HostState). HasEnds h.tickets) (final) c.end-host.ensures.ended in
     always-ok c.write_summary-result.result ends
 
 pub returns-in-Ok-answer_each-clause-last_reaped : goal.returns-in-Ok-answer_each-clause-last_reaped
@@ -59,7 +59,7 @@ returns-in-Ok-answer_each-clause-last_reaped g c =
 pub returns-in-Ok-answer_each-clause-keeps_nothing : goal.returns-in-Ok-answer_each-clause-keeps_nothing
 returns-in-Ok-answer_each-clause-keeps_nothing g c =
     let final = host-final c.answer_each.new.session c.end-host.result c.args.items.items c.in-Ok-answer_each.ensures.ok c.end-host.ensures.host in
-    always-ok c.write_summary-result.result (subst KeepsNothing final (host-nothing c.answer_each.new.session c.end-host.result c.args.items.items c.in-Ok-answer_each.ensures.ok c.end-host.ensures.keeps_nothing))
+    always-ok c.write_summary-result.result (subst KeepsNothing final c.end-host.ensures.keeps_nothing)
 
 pub returns-in-Ok-answer_each-clause-counted : goal.returns-in-Ok-answer_each-clause-counted
 returns-in-Ok-answer_each-clause-counted g c =
@@ -68,7 +68,7 @@ returns-in-Ok-answer_each-clause-counted g c =
 pub returns-in-Ok-answer_each-clause-served : goal.returns-in-Ok-answer_each-clause-served
 returns-in-Ok-answer_each-clause-served g c =
     let final = host-final c.answer_each.new.session c.end-host.result c.args.items.items c.in-Ok-answer_each.ensures.ok c.end-host.ensures.host in
-    let ends = subst (λ (h : HostState). HasEnds h.tickets) (final) (host-ended c.answer_each.new.session c.end-host.result c.args.items.items c.in-Ok-answer_each.ensures.ok c.end-host.ensures.ended) in
+    let ends = subst (λ (h : HostState). HasEnds h.tickets) (final) c.end-host.ensures.ended in
     always-ok c.write_summary-result.result (served-handles c.args.items.items ends)
 
 pub returns-in-Ok-answer_each-clause-printed : goal.returns-in-Ok-answer_each-clause-printed
@@ -78,13 +78,13 @@ returns-in-Ok-answer_each-clause-printed g c =
 pub returns-in-Ok-answer_each-clause-controls : goal.returns-in-Ok-answer_each-clause-controls
 returns-in-Ok-answer_each-clause-controls g c =
     let final = host-final c.answer_each.new.session c.end-host.result c.args.items.items c.in-Ok-answer_each.ensures.ok c.end-host.ensures.host in
-    let ends = subst (λ (h : HostState). HasEnds h.tickets) (final) (host-ended c.answer_each.new.session c.end-host.result c.args.items.items c.in-Ok-answer_each.ensures.ok c.end-host.ensures.ended) in
+    let ends = subst (λ (h : HostState). HasEnds h.tickets) (final) c.end-host.ensures.ended in
     always-ok c.write_summary-result.result (scripts-serve_controls c.args.items.items ends)
 
 pub returns-in-Ok-answer_each-clause-fates : goal.returns-in-Ok-answer_each-clause-fates
 returns-in-Ok-answer_each-clause-fates g c =
     let final = host-final c.answer_each.new.session c.end-host.result c.args.items.items c.in-Ok-answer_each.ensures.ok c.end-host.ensures.host in
-    let ends = subst (λ (h : HostState). HasEnds h.tickets) (final) (host-ended c.answer_each.new.session c.end-host.result c.args.items.items c.in-Ok-answer_each.ensures.ok c.end-host.ensures.ended) in
+    let ends = subst (λ (h : HostState). HasEnds h.tickets) (final) c.end-host.ensures.ended in
     let reaped = subst (λ (h : HostState). HasCompletions h.kernel.past) (final) c.end-host.ensures.reaped in
     always-ok c.write_summary-result.result (fates-of_scripts c.args.items.items ends reaped)
 

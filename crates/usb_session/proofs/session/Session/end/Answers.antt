@@ -1,32 +1,19 @@
 use Rattle.std.proofs.Common.{◌≡◌, ◌∙◌, ℕ, None, ap, sym, refl}
 use Rattle.usb_device_host.specs.HostState.{HostState}
-use Rattle.usb_device_host.specs.HostBus.{owner_at}
 use Rattle.usb_device_host.specs.Finishes.{HasEnds, KeepsNothing}
 use Rattle.usb_session_calls.specs.Names.{named}
 use Rattle.usb_session_calls.specs.State.{State, Endpoint}
 use Rattle.usb_session.specs.Ends.{readers_closed, writers_closed, endpoints_closed, futures_closed, interfaces_closed, devices_closed, all_closed}
 use Rattle.usb_session_calls.specs.Relation.{Represents}
-use Rattle.usb_session.specs.Accounts.{Accounted}
 use Rattle.usb_session_calls.specs.EndpointNames.{EndpointName, Own, OfReader, OfWriter, endpoint_under}
 use Rattle.usb_session_calls.specs.SessionState.{SessionState, open_under}
 use Rattle.usb_session.specs.SessionFacts.{made_of}
 use Rattle.usb_session.proofs.KeptNames.{unmapped}
 use Rattle.usb_session.proofs.Replaced.{reader_endpoint, writer_endpoint}
 use Rattle.usb_session.proofs.EndLemmas.{none-all, none-open, none-holds, none-claimed, end-host, end-none, end-empty}
-use Rattle.usb_session.proofs.AccountLemmas.{accounted-all_closed, accounted-none}
 use Rattle.usb_session_calls.proofs.Answering.{under_kept, host_is}
 use Rattle.usb_session.proofs.Later.{later-ended}
 use Rattle.usb_session.proofs.session.Session.end.Goals as goal
-
--- all is closed, so no endpoint and no future holds a ticket, and each ticket of the host has its end
-end-ended : (s : SessionState) (before now : HostState) (state : State) → before ≡ s.host → ((e : EndpointName) → open_under s e ≡ None) → ((n : ℕ) → named s.futures n ≡ None) → Represents s (devices_closed (interfaces_closed (futures_closed (endpoints_closed (writers_closed (readers_closed state 64) 64) 64) 64) 64) 64) → Accounted state
-    → (((t : ℕ) → owner_at before.tickets t ≡ None) → HasEnds now.tickets) → HasEnds now.tickets
-unfolding all_closed
-end-ended s before now state same none gone r a ends =
-    let last = all_closed state in
-    let closed_all : (e : EndpointName) → endpoint_under last e ≡ None = λ e. unmapped (λ (x : Endpoint). x.state) (endpoint_under last e) (sym (under_kept s last e r) ∙ none e) in
-    let all_gone : (n : ℕ) → named last.futures n ≡ None = λ n. ap (λ (v : SessionState). named v.futures n) (sym r) ∙ gone n in
-    ends (λ t. ap (λ (h : HostState). owner_at h.tickets t) (same ∙ host_is s last r) ∙ accounted-none last (accounted-all_closed state a) closed_all all_gone t)
 
 pub drop_names-requires : goal.drop_names-requires
 drop_names-requires c = record {
@@ -98,22 +85,15 @@ returns c =
     c.close_devices.ensures.stands (interfaces_closed (futures_closed closed 64) 64)
     (c.close_interfaces.ensures.stands (futures_closed closed 64)
     (c.close_futures.ensures.stands closed (c.close_endpoints.ensures.stands written (c.close_writers.ensures.stands read (c.close_readers.ensures.stands state r))))) in
-    let ends : (state : State) → Represents c.args.self state → Accounted state → HasEnds now.tickets =
-    λ state r a. end-ended c.close_devices.new.self before now state (ap (λ (v : SessionState). v.host) c.session.view_is)
-    (λ e. sym (ap (λ (v : SessionState). open_under v e) c.session.view_is) ∙ no_endpoints e)
-    (λ n. sym (ap (λ (v : SessionState). named v.futures n) c.session.view_is) ∙ no_futures n)
-    (stands state r) a c.finish.ensures.ended in
-    let nothing : (state : State) → Represents c.args.self state → Accounted state → KeepsNothing now =
-    λ state r a. end-empty s before now refl c.finish.ensures.finished c.session.invariant no_devices no_interfaces no_endpoints no_futures c.nothing_is_kept_that_has_gone.ensures.owned c.nothing_is_kept_that_has_gone.ensures.alive (ends state r a) in
     let all_end : HasEnds now.tickets = c.finish.ensures.ended (none-holds s c.session.invariant no_endpoints no_futures) in
     let empty : KeepsNothing now = end-empty s before now refl c.finish.ensures.finished c.session.invariant no_devices no_interfaces no_endpoints no_futures c.nothing_is_kept_that_has_gone.ensures.owned c.nothing_is_kept_that_has_gone.ensures.alive all_end in
     record {
       host = λ state r. end-host c.close_devices.new.self before now state (sym (ap (λ (v : SessionState). v.host) c.session.view_is)) c.finish.ensures.finished (stands state r);
-      ended = ends;
+      ended = all_end;
       reaped = c.finish.ensures.reaped;
       lawful = rw (← c.kernel.ensures.kernel) c.journal.ensures.lawful;
       none_open = end-none s before now refl c.finish.ensures.finished c.session.invariant no_devices no_interfaces;
-      keeps_nothing = nothing;
+      keeps_nothing = empty;
       unclaimed = none-claimed before now c.finish.ensures.finished c.session.invariant.claims_owned empty.interfaces;
       goes_on = later-ended c.args.self now (λ state r. end-host c.close_devices.new.self before now state (sym (ap (λ (v : SessionState). v.host) c.session.view_is)) c.finish.ensures.finished (stands state r));
     }
