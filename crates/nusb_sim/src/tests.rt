@@ -2,10 +2,12 @@
 
 mod controls;
 mod crowded;
+mod deadlines;
 mod descriptors;
 mod devices;
 mod endpoints;
 mod enumeration;
+mod halts;
 mod lines;
 mod live;
 mod readers;
