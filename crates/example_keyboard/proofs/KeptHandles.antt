@@ -48,12 +48,12 @@ none-kept : (old new : HostState) → KeepsOpen old new → LeavesNoneOpen old n
 none-kept old new keeps = none-of old new keeps.line.devices keeps.interfaces keeps.endpoints
 
 -- a submission, a wait and a poll
-none-entered : (h : HostState) (e : EndpointState) (b : BufferState) → LeavesNoneOpen h (entered host_calls h e b)
+none-entered : (h : HostState) (e : EndpointState) (b : BufferState) → LeavesNoneOpen h (entered host_calls h e None b)
 none-entered h e b =
     let transfer = transfer_by (route_of e) b in
-    none-kept h (entered host_calls h e b)
-    (cond_both (is_valid e b) (host_submitted h (route_of e) transfer) (host_refused h (route_of e) transfer 22) (KeepsOpen h)
-    (λ valid. keeps-submitted h (route_of e) transfer) (λ other. keeps-refused h (route_of e) transfer 22))
+    none-kept h (entered host_calls h e None b)
+    (cond_both (is_valid e b) (host_submitted h (route_of e) None transfer) (host_refused h (route_of e) transfer 22) (KeepsOpen h)
+    (λ valid. keeps-submitted h (route_of e) None transfer) (λ other. keeps-refused h (route_of e) transfer 22))
 
 none-waited : (h : HostState) (t timeout : ℕ) → LeavesNoneOpen h (waited host_calls t timeout h)
 none-waited h t timeout =
@@ -75,7 +75,7 @@ kept-of h new e e' [] found is = kept-same h new (ap (λ (p : Polled HostState).
 kept-of h new e e' (t ∷ ts) found is = kept-if h new e e' t ts found (transfer_completion h.kernel.past t) is
 
 pub none-packet : (first mid new : HostState) (e e' e'' : EndpointState) (b : BufferState) (timeout : ℕ) (found : Option Completion) →
-    mid ≡ entered host_calls first e b → wait_next host_calls timeout mid e' ≡ front_found found new e'' → LeavesNoneOpen first new
+    mid ≡ entered host_calls first e None b → wait_next host_calls timeout mid e' ≡ front_found found new e'' → LeavesNoneOpen first new
 none-packet first mid new e e' e'' b timeout found is waits =
     let at = waited host_calls (front_of e'.pending) timeout mid in
     none-trans first mid new (subst (LeavesNoneOpen first) (sym is) (none-entered first e b))

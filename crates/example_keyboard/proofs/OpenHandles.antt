@@ -25,9 +25,9 @@ use Rattle.usb_device_host.proofs.ClaimFrames.{goes-ended}
 use Rattle.usb_device_host.proofs.OpeningLemmas.{claimed-at, claimed-refused}
 use Rattle.usb_device_host.proofs.InterfaceFrames.{bus-claimed, bus-handle_closed, asked-is, asked-counts, opened-is}
 use Rattle.usb_error.specs.Outcomes.{Tried}
-use Rattle.usb_device.specs.HandleStates.{InterfaceState}
+use Rattle.usb_device_host.specs.HandleStates.{InterfaceState}
 use Rattle.usb_device.specs.HandleCalls.{ClaimsInterface, ClaimsAndCloses, OpensAndCloses}
-use Rattle.usb_device.proofs.HeldDevices.{opens-one, opens-none, opened-claimed, opened-handle_closed}
+use Rattle.usb_device_host.proofs.HeldDevices.{opens-one, opens-none, opened-claimed, opened-handle_closed}
 use Rattle.example_keyboard.specs.Closing.{NoMoreDevices, NoMoreInterfaces, LeavesNoneOpen, LeavesOneOpen}
 use Rattle.example_keyboard.proofs.HandleCounts.{OneMore, OneLess, more-goes, more-same, more-trans, one-pushed, one-then, less-then, one-closed, less-set, less-none, more-opened, less-closed}
 

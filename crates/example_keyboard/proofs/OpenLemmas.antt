@@ -13,7 +13,7 @@ use Rattle.usb_device_host.specs.Opens.{host_opened}
 use Rattle.usb_device_host.specs.InterfaceClaims.{host_claimed}
 use Rattle.usb_device_host.specs.EndpointOpens.{host_asked, with_endpoint}
 use Rattle.usb_device_host.proofs.InterfaceFrames.{bus-claimed, bus-handle_closed, asked-is, opened-is}
-use Rattle.usb_device.specs.HandleStates.{InterfaceState}
+use Rattle.usb_device_host.specs.HandleStates.{InterfaceState}
 use Rattle.usb_device.specs.HandleCalls.{ClaimsAndCloses, OpensAndCloses}
 
 past-leaves : {A : Type 0} (r : Result A (Fail ErrorState)) (new called old : HostState) → Leaves r new called old →

@@ -13,69 +13,22 @@ use Rattle.usb_device_ledger.specs.declared.opened.OpenDevice.{OpenDevice}
 use Rattle.usb_device_ledger.specs.Entries.{ClaimedInterface, fresh_interface}
 use Rattle.usb_device_endpoint.specs.EndpointState.{EndpointState}
 use Rattle.usb_device_host.specs.HostState.{HostState}
-use Rattle.usb_device_host.specs.Opens.{open_key, with_key, host_opened}
+use Rattle.usb_device_host.specs.Opens.{open_key, host_opened}
 use Rattle.usb_device_host.specs.Handles.{device_closed}
 use Rattle.usb_device_host.specs.InterfaceClaims.{claimed_key}
 use Rattle.usb_device_host.proofs.OpeningLemmas.{claimed-at}
-use Rattle.usb_device.specs.HandleStates.{InterfaceState}
-use Rattle.usb_device.specs.HandleCalls.{ClaimsInterface, ClaimsAndCloses, OpensAndCloses}
-use Rattle.example_keyboard.specs.Opening.{device_answer, interface_answer, interface_left, endpoint_answer, keyboard_answer}
-
--- the device of a key was opened
-record Opened (h : HostState) (bus address key : ℕ) : Type 0 where
-  device : OpenDevice
-  answer : device_answer h bus address ≡ Ok device
-  key_is : key ≡ length h.devices
-  at : value_at (host_opened h bus address).devices key ≡ Some device
-
-device-opened : (h : HostState) (bus address key : ℕ) (r : Result OpenDevice ErrorState) →
-    device_answer h bus address ≡ r → with_key (length h.devices) r ≡ Ok key → Opened h bus address key
-unfolding host_opened
-device-opened h bus address key (Err error) answer given = absurd (cc)
-device-opened h bus address key (Ok device) answer given =
-    let key_is : key ≡ length h.devices = cc in
-    record {
-      device = device;
-      answer = answer;
-      key_is = key_is;
-      at = rw (key_is, answer) (value-last h.devices (Some device));
-    }
-
-opened : (h : HostState) (bus address key : ℕ) → open_key h bus address ≡ Ok key → Opened h bus address key
-unfolding open_key
-opened h bus address key tried = device-opened h bus address key (device_answer h bus address) refl tried
-
-device-error : (n : ℕ) (r : Result OpenDevice ErrorState) (error : ErrorState) → with_key n r ≡ Err error → r ≡ Err error
-device-error n (Err other) error is = cc
-device-error n (Ok device) error is = absurd (cc)
+use Rattle.usb_device_host.specs.HandleStates.{InterfaceState}
+use Rattle.usb_device.specs.HandleCalls.{ClaimsAndCloses, OpensAndCloses}
+use Rattle.usb_device.proofs.InterfaceAnswers.{opened, device_refused, claimed_device, claimed_answer, claimed_key-error}
+use Rattle.example_keyboard.specs.Opening.{claim_answer, interface_left, endpoint_answer, keyboard_answer}
 
 -- the device is refused
 pub device-tried : (h : HostState) (bus address : ℕ) (error : Fail ErrorState) →
     Tried {A = ℕ} (Err error) (open_key h bus address) → Tried {A = Unit {0}} (Err error) (keyboard_answer h bus address)
-unfolding open_key keyboard_answer
+unfolding keyboard_answer
 device-tried h bus address (Cause error) tried =
-    let is : device_answer h bus address ≡ Err error = device-error (length h.devices) (device_answer h bus address) error tried in
-    rw is refl
+    rw (device_refused h bus address error tried) refl
 device-tried h bus address Memory tried = tt
-
-claim-error : (n : ℕ) (r : Result (Unit {0}) ErrorState) (error : ErrorState) → claimed_key n r ≡ Err error → r ≡ Err error
-claim-error n (Err other) error is = cc
-claim-error n (Ok done) error is = absurd (cc)
-
--- the device that the interface is claimed on
-claimed-device : (h old between : HostState) (bus address key : ℕ) (r : Result InterfaceState (Fail ErrorState)) →
-    old ≡ host_opened h bus address → (claims : ClaimsInterface old between key 0 true r) (was : Opened h bus address key) →
-    claims.device ≡ was.device
-claimed-device h old between bus address key r is claims was =
-    same_Some claims.device was.device (sym claims.at ∙ ap (λ (h : HostState). value_at h.devices key) is ∙ was.at)
-
--- and what that claim answers
-claimed-answer : (h old between : HostState) (bus address key : ℕ) (r : Result InterfaceState (Fail ErrorState)) →
-    old ≡ host_opened h bus address → (claims : ClaimsInterface old between key 0 true r) (was : Opened h bus address key) →
-    interface_answer (host_opened h bus address) was.device ≡ interface_answer old claims.device
-claimed-answer h old between bus address key r is claims was =
-    ap (λ (h : HostState). interface_answer h was.device) (sym is)
-    ∙ ap (λ (o : OpenDevice). interface_answer old o) (sym (claimed-device h old between bus address key r is claims was))
 
 -- its interface is refused
 pub interface-tried : (h old new : HostState) (bus address key : ℕ) (error : Fail ErrorState) →
@@ -85,19 +38,19 @@ unfolding keyboard_answer
 interface-tried h old new bus address key (Cause error) tried is both =
     let was = opened h bus address key tried in
     let claims = both.claims in
-    let answer = claimed-answer h old both.between bus address key (Err (Cause error)) is claims was
-    ∙ claim-error (length old.interfaces) (interface_answer old claims.device) error claims.tried in
+    let answer = claimed_answer h old both.between bus address key 0 true (Err (Cause error)) is claims was
+    ∙ claimed_key-error (length old.interfaces) (claim_answer old claims.device) error claims.tried in
     rw (was.answer, answer) refl
 interface-tried h old new bus address key Memory tried is both = tt
 
 -- the interface was claimed
 record Claimed (old : HostState) (key i : ℕ) (device : OpenDevice) : Type 0 where
-  answer : interface_answer old device ≡ Ok tt
+  answer : claim_answer old device ≡ Ok tt
   key_is : i ≡ length old.interfaces
   at : value_at (interface_left old key).interfaces i ≡ Some (fresh_interface key device.device 0 true)
 
 interface-claimed : (old : HostState) (key i : ℕ) (device : OpenDevice) (r : Result (Unit {0}) ErrorState) →
-    value_at old.devices key ≡ Some device → interface_answer old device ≡ r → claimed_key (length old.interfaces) r ≡ Ok i →
+    value_at old.devices key ≡ Some device → claim_answer old device ≡ r → claimed_key (length old.interfaces) r ≡ Ok i →
     Claimed old key i device
 interface-claimed old key i device (Err error) at answer given = absurd (cc)
 interface-claimed old key i device (Ok done) at answer given =
@@ -134,14 +87,14 @@ unfolding keyboard_answer
 endpoint-tried h old mid new bus address key i r tried is both opens =
     let was = opened h bus address key tried in
     let claims = both.claims in
-    let made = interface-claimed old key i.key claims.device (interface_answer old claims.device) claims.at refl claims.tried in
-    let answer : interface_answer (host_opened h bus address) was.device ≡ Ok tt =
-    claimed-answer h old both.between bus address key (Ok i) is claims was ∙ made.answer in
+    let made = interface-claimed old key i.key claims.device (claim_answer old claims.device) claims.at refl claims.tried in
+    let answer : claim_answer (host_opened h bus address) was.device ≡ Ok tt =
+    claimed_answer h old both.between bus address key 0 true (Ok i) is claims was ∙ made.answer in
     let left : mid ≡ interface_left old key = both.closed ∙ ap (λ (h : HostState). device_closed h key) claims.host in
     let interface : opens.opens.interface ≡ fresh_interface key claims.device.device 0 true =
     same_Some opens.opens.interface (fresh_interface key claims.device.device 0 true)
     (sym opens.opens.at ∙ ap (λ (h : HostState). value_at h.interfaces i.key) left ∙ made.at) in
-    let device = claimed-device h old both.between bus address key (Ok i) is claims was in
+    let device = claimed_device h old both.between bus address key 0 true (Ok i) is claims was in
     let same = endpoint-same (interface_left (host_opened h bus address) (length h.devices)) mid
     (length (host_opened h bus address).interfaces) i.key
     (fresh_interface (length h.devices) was.device.device 0 true) opens.opens.interface

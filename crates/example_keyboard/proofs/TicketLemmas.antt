@@ -112,7 +112,7 @@ why-front old new t u found same why = subst (λ (t : ℕ). IfSome found (λ _. 
 
 pub brings : (first mid new : HostState) (e e' e'' : EndpointState) (b : BufferState) (valid : Bool) (timeout : ℕ) (found : Option Completion) →
     e.pending ≡ [] → e' ≡ record e { pending = e.pending ++ length (tickets first.kernel.past) ∷ [] } →
-    mid ≡ entered host_calls first e b → Enters (bus_of first) (bus_of mid) (route_of e) b valid →
+    mid ≡ entered host_calls first e None b → Enters (bus_of first) (bus_of mid) (route_of e) None b valid →
     (bus_of mid).turns_left ≤ (bus_of first).turns_left →
     wait_next host_calls timeout mid e' ≡ front_found found new e'' →
     IfSome found (λ _. FoundWhy (bus_of mid) (bus_of new) (front_of e'.pending)) →
@@ -122,7 +122,7 @@ brings first mid new e e' e'' b valid timeout found none next is enters left wai
     let one : e'.pending ≡ t ∷ [] = ap (λ (e : EndpointState). e.pending) next ∙ ap (λ ts. ts ++ t ∷ []) none in
     let at = waited host_calls (front_of e'.pending) timeout mid in
     let found_at = finds at new e' e'' t found one waits in
-    let added : length (tickets mid.kernel.past) ≡ t + 1 = ap (λ (h : HostState). length (tickets h.kernel.past)) is ∙ (entered-count first e b).past in
+    let added : length (tickets mid.kernel.past) ≡ t + 1 = ap (λ (h : HostState). length (tickets h.kernel.past)) is ∙ (entered-count first e None b).past in
     let waited_on = (waited-count mid (front_of e'.pending) timeout).past in
     record {
       past = extends-trans first.kernel.past mid.kernel.past new.kernel.past
@@ -130,7 +130,7 @@ brings first mid new e e' e'' b valid timeout found none next is enters left wai
       ticket = ap (λ (past : List Event). length (tickets past)) found_at.past ∙ (waited_on ∙ added);
       completion = found_at.completion;
       turn = more-turns found (bus_of new).turns_left (bus_of mid).turns_left (bus_of first).turns_left left
-          (turn-made first.kernel.past mid.kernel.past new.kernel.past (submission_of (route_of e) b) enters.refusal
+          (turn-made first.kernel.past mid.kernel.past new.kernel.past (submission_of (route_of e) None b) enters.refusal
           (bus_of new).turns_left (bus_of mid).turns_left found enters.ticket.errno enters.ticket.past goes.past found_at.completion
           (why-front (bus_of mid) (bus_of new) (front_of e'.pending) t found (ap front_of one) why));
     }

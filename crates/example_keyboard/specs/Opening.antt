@@ -7,18 +7,15 @@ use Rattle.usb_error.specs.Outcomes.{◌>>=◌}
 use Rattle.usb_device_ledger.specs.Entries.{ClaimedInterface, fresh_interface}
 use Rattle.usb_device_ledger.specs.declared.opened.OpenDevice.{OpenDevice}
 use Rattle.usb_device_host.specs.HostState.{HostState}
-use Rattle.usb_device_host.specs.Opens.{open_tried, host_opened}
+use Rattle.usb_device_host.specs.Opens.{host_opened}
 use Rattle.usb_device_host.specs.Handles.{device_closed}
 use Rattle.usb_device_host.specs.InterfaceClaims.{claim_tried, host_claimed}
 use Rattle.usb_device_host.specs.EndpointOpens.{host_asked, host_tries}
+use Rattle.usb_device.specs.InterfaceAnswers.{device_answer}
 
--- the device at an address of a bus
-abbrev pub device_answer : HostState → ℕ → ℕ → Result OpenDevice ErrorState
-device_answer h bus address = (open_tried bus address h.kernel).answer
-
--- the claim of its interface 0, whose kernel driver is detached
-abbrev pub interface_answer : HostState → OpenDevice → Result (Unit {0}) ErrorState
-interface_answer h device = claim_tried h device 0 true
+-- the claim of interface 0 of an open device, whose kernel driver is detached
+abbrev pub claim_answer : HostState → OpenDevice → Result (Unit {0}) ErrorState
+claim_answer h device = claim_tried h device 0 true
 
 -- the host behind that claim, when the handle of the device of this key is closed
 abbrev pub interface_left : HostState → ℕ → HostState
@@ -37,7 +34,7 @@ keyboard_answer h bus address =
     let key = length h.devices in
     do
       device ← device_answer h bus address
-      claimed ← interface_answer opened device
+      claimed ← claim_answer opened device
       packet_size ← endpoint_answer (interface_left opened key) (length opened.interfaces)
           (fresh_interface key device.device 0 true)
       Ok tt

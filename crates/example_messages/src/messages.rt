@@ -3,7 +3,7 @@
 ghost use Rattle.std.specs.Prelude.{◌≡◌, [], IfOk, IfErr, OnOk, OnErr};
 ghost use Rattle.usb_device_endpoint.specs.Handles.{Stands, KeepsOthers};
 ghost use Rattle.usb_device_host.specs.HostBus.{bus_of};
-ghost use Rattle.usb_device.specs.HandleStates.{StandsInterface};
+ghost use Rattle.usb_device_host.specs.HandleStates.{StandsInterface};
 ghost use Rattle.example_messages.specs.Restarts.{ClearsHalt, BothCleared, OneRefused};
 ghost use Rattle.example_messages.specs.Endpoints.{fresh_messages, IsFresh, IsSettled, IsOpen, BothStand, IsClosed, BothClosed, IsSame, KeepsEndpoints, OthersStand, StandBeside, IsSmall};
 
