@@ -7,13 +7,17 @@ ghost use Rattle.usb_device_endpoint.specs.EndpointState.{EndpointState};
 ghost use Rattle.usb_device_endpoint.specs.Handles.{Stands};
 
 mod bus;
+mod deadlines;
 mod faults;
+mod halts;
 mod readers;
 mod transfers;
 mod writers;
 
 use crate::devices::new_kernel;
 use crate::endpoints::bus::is_right_bus;
+use crate::endpoints::deadlines::{Step, has_greatest_deadline, is_right_at_deadlines};
+use crate::endpoints::halts::go_on;
 use crate::endpoints::readers::{
     FILLS, MESSAGES, READS, has_transfers, is_right_reader, takes_what_stands,
 };
@@ -57,12 +61,18 @@ enum Case {
     Bus,
     /// An endpoint is opened, and transfers of several lengths are submitted.
     Endpoint,
+    /// Transfers are submitted with deadlines and without, in these steps.
+    Deadlines(&'static [Step]),
+    /// One is handed to the bus with the greatest deadline.
+    GreatestDeadline,
     /// A reader is read until a short packet.
     Messages,
     /// A reader is read by std's traits.
     Reads,
     /// It lends bytes by them.
     Fills,
+    /// Readers go on once a halt is cleared, and don't where that is refused.
+    Halts,
     /// A writer is written to by std's trait.
     Writes,
     /// A reader is made with a number of transfers.
@@ -82,9 +92,12 @@ fn is_so(alloc: Global, bus: &mut KernelBus, case: &Case) -> bool {
     match case {
         Case::Bus => is_right_bus(bus),
         Case::Endpoint => is_right_endpoint(alloc, bus),
+        Case::Deadlines(steps) => is_right_at_deadlines(alloc, bus, *steps),
+        Case::GreatestDeadline => has_greatest_deadline(alloc, bus),
         Case::Messages => is_right_reader(alloc, bus, MESSAGES),
         Case::Reads => is_right_reader(alloc, bus, READS),
         Case::Fills => is_right_reader(alloc, bus, FILLS),
+        Case::Halts => go_on(alloc, bus),
         Case::Transfers => has_transfers(alloc, bus),
         Case::Writes => is_right_writer(alloc, bus),
         Case::AnyType => takes_what_stands(alloc, bus) && tells_its_packets(alloc, bus),

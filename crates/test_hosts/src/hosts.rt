@@ -11,7 +11,7 @@ mod transfers;
 use crate::devices::{DEVICE, new_kernel};
 use crate::hosts::handles::{has_texts, is_mapped, is_timed};
 use crate::hosts::slots::has_slots;
-use crate::hosts::transfers::{has_packet, leaves_room};
+use crate::hosts::transfers::{has_packet, is_cancelled_in_time, leaves_room};
 use crate::steps::packet;
 use std::alloc::Global;
 use std::process::Abort;
@@ -66,6 +66,8 @@ fn new_host(alloc: Global, steps: Vec<KernelStep>) -> Result<Host, NoMemory>
 enum Case {
     /// A packet is read.
     Packet,
+    /// A packet that doesn't come is waited for until its deadline.
+    Deadline,
     /// What is opened and claimed is closed again and again.
     Room,
     /// The debug texts of the device and of its interface are written.
@@ -90,6 +92,7 @@ fn expect(rt: &impl Abort, alloc: Global, steps: Vec<KernelStep>, case: &Case) -
 fn is_so(alloc: Global, host: &mut Host, case: &Case) -> bool {
     match case {
         Case::Packet => has_packet(alloc, host),
+        Case::Deadline => is_cancelled_in_time(alloc, host),
         Case::Room => leaves_room(alloc, host),
         Case::Texts => matches!(has_texts(alloc, host), Ok(true)),
         Case::Mapped => is_mapped(host),
@@ -101,6 +104,16 @@ fn is_so(alloc: Global, host: &mut Host, case: &Case) -> bool {
 #[test]
 fn a_short_driver_reads_a_packet(rt: HostRuntime) -> Result<(), Fail> {
     expect(&rt, rt.alloc(), new_line(rt.alloc(), 0x81)?, &Case::Packet)
+}
+
+#[test]
+fn a_read_is_cancelled_at_its_deadline(rt: HostRuntime) -> Result<(), Fail> {
+    expect(
+        &rt,
+        rt.alloc(),
+        new_line(rt.alloc(), 0x80)?,
+        &Case::Deadline,
+    )
 }
 
 #[test]

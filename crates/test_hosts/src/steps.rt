@@ -5,7 +5,7 @@ ghost use Rattle.usb_kernel.specs.Steps.{HasErrno};
 
 use std::alloc::Global;
 use usb_desc::NoMemory;
-use usb_kernel::{Bytes, KernelStep};
+use usb_kernel::{Bytes, KernelCall, KernelStep};
 
 /// A packet, which comes to endpoint 0x81.
 pub fn packet(alloc: Global, bytes: &[u8]) -> Result<KernelStep, NoMemory>
@@ -36,4 +36,11 @@ pub const OUTPUT_STALL: KernelStep = KernelStep::Fail {
     device: 0,
     endpoint: 0x02,
     errno: 32,
+};
+
+/// The next clear of a halt of device 0 is refused.
+pub const HALT_REFUSAL: KernelStep = KernelStep::Refuse {
+    device: 0,
+    call: KernelCall::Halt,
+    errno: 71,
 };

@@ -28,12 +28,33 @@ now : reap
 submitout e0 0
 submitout e0
 submitout e0 00 : reap
+dsubmitin e0 64
+dsubmitin e0 64 1 1
+dsubmitin e0 64 1 : reap
+dsubmitin e0 65537 1
+dsubmitin e0 max 64
+dsubmitin e0 64 MAX
+dsubmitin e0 64 1000000000000000001
+dsubmitin e64 64 1
+dsubmitin r0 64 1
+dsubmitin
+dsubmitout e0 00
+dsubmitout e0 00 1 : reap
+dsubmitout e0 0 1
+dsubmitout e0 00 -
+dsubmitout w0 00 1
+dsubmit e0 64 1
 pending e64
 pending e0 0
 cancel e0 e1
 close e64
 close e0 : reap
 halt i0
+halt w0
+halt
+halt e64
+halt e0 e1
+halt e0 : reap
 poll e0 : reap
 endpoint e0 i0 02 int
 endpoint e0 i0 81 iso-in
@@ -204,6 +225,10 @@ timeout r0
 timeout r0 1000000000000000001
 timeout e0 5
 cancel r64
+halt r64
+halt r00
+halt r0 r1
+halt r0 : reap
 cancel i0
 cancel r0 r1
 close r07

@@ -40,9 +40,18 @@ getalt i52
 ifdesc i53
 release i54
 halt e55
+dsubmitin e56 57 58
+dsubmitout e59 60 61
+halt r62
 # the clock, endpoints and waits
 submitout e0 -
 submitout e63 0aF0
+dsubmitin e0 0 0
+dsubmitin e63 65536 max
+dsubmitin e1 0000000000000065536 1000000000000000000
+dsubmitout e0 - 0
+dsubmitout e63 0aF0 max
+dsubmitout e1 - 0000000000000000001
 pending e0
 cancel e0
 close e0
@@ -97,6 +106,8 @@ num r0 065536
 timeout r0 0
 timeout r0 1000000000000000000
 cancel r0
+halt r0
+halt r63
 close r63
 consume r0 65536
 isend r0

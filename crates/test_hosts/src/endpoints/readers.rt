@@ -215,7 +215,7 @@ fn are_right(
 }
 
 /// Whether a packet comes.
-fn comes(alloc: Global, bus: &mut KernelBus, bytes: &[u8]) -> bool
+pub fn comes(alloc: Global, bus: &mut KernelBus, bytes: &[u8]) -> bool
     ensures endpoints { (e : EndpointState) → Stands (bus_of bus.old) e →
         Stands (bus_of bus.new) e }
 {

@@ -15,7 +15,7 @@ use usb_device_endpoint::{Endpoint, KernelBus};
 use usb_xfer::{Bulk, In, TransferError};
 
 /// The bulk IN endpoint 0x81 of device 0, with packets of 64 bytes.
-fn open(alloc: Global, bus: &mut KernelBus) -> Result<Endpoint<Bulk, In>, NoMemory>
+pub fn open(alloc: Global, bus: &mut KernelBus) -> Result<Endpoint<Bulk, In>, NoMemory>
     ensures stands { IfOk result (λ e. Stands (bus_of bus.new) e) }
 {
     let key = bus.open()?;
