@@ -8,11 +8,12 @@ interfaces, some of whose attributes are missing, denied or damaged. Each other 
 calls and steps over few names, so that names collide, endpoints are busy, tickets are reaped in any order and devices are
 pulled out while transfers are open. In a quarter of the scripts most calls are control transfers, with deadlines that pass while
 they wait, in another reads of readers, in a third transfers of endpoints; in the others most are about owners: claims, clones,
-closes, kernel drivers, configurations and alternate settings. In about a third of the scripts no refusal is armed. One in ten has a malformed line.
+closes, kernel drivers, configurations and alternate settings. In some, deadlines of transfers pass by steps of the timer, and in
+some while a control transfer is waited for. In about a third of the scripts no refusal is armed. One in ten has a malformed line.
 Some scripts print the descriptors of damaged devices, and in some more than 1,024 tickets are unreaped.
 At the end stand the kinds of lines and steps of docs/SCRIPT.md, the answers and the statuses that didn't occur, and of the
 calls about owners, of control transfers and of reads each answer that didn't: those that a script can have without an armed refusal are
-counted there alone.
+counted there alone. Of `halt r` they say whether the read before it had failed. Of deadlines they say what discarded a transfer that was due.
 """
 import collections
 import pathlib
@@ -39,6 +40,7 @@ FAILED = [f"failed {it}" for it in ("cancelled", "stall", "disconnected", "fault
 UNTOLD = ["failed invalid-descriptor", *FAILED]
 TIMED_OUT, ENDED_EARLY = "io TimedOut timeout waiting for read", "io UnexpectedEof ended without short packet"
 NOT_WRITTEN = "io TimedOut write timeout"
+NO_HALT = "error Other failed to clear halt"
 FAULTS = [
     "io ConnectionReset endpoint stalled", "io ConnectionAborted device disconnected", "io Other hardware fault or protocol violation",
     "io InvalidInput invalid or unsupported argument", "io Other unknown",
@@ -85,7 +87,10 @@ OF_CALLS = {
     "ifdesc": (["if 0.0", "if 0.1", "if 1.0", "if 1.2", "if 3.0"], ["none"]),
     "release": (["ok", "error Busy interface is still in use"], []),
     "endpoint": (["ok", NO_ENDPOINT, "error Busy endpoint already in use"], []),
-    "halt": (["ok", GONE], ["error Other failed to clear halt"]),
+    "halt e": (["ok", GONE], ["error Other failed to clear halt"]),
+    "halt r": (["ok", GONE, "ok behind a fault", f"{GONE} behind a fault"], [NO_HALT, f"{NO_HALT} behind a fault"]),
+    "dsubmitin": (["ok"], []),
+    "dsubmitout": (["ok"], []),
     "ctlin": (["data", *FAILED], []),
     "ctlout": (["ok", *FAILED], []),
     "fin": (["ok"], []),
@@ -229,6 +234,20 @@ def names(r):
     return name(r, "d", 2), name(r, "i", 3), name(r, "e", 3)
 
 
+def deadline(r):
+    """How long a transfer with a deadline may take."""
+    return r.choice(["0", "50", "500", "1000", "2000", "86400000000001", "max"])
+
+
+def deadline_call(r, e):
+    """Hands in a transfer with a deadline."""
+    return r.choice([
+        lambda: f"dsubmitin {e} {length(r)} {deadline(r)}",
+        lambda: f"dsubmitin {e} 64 {deadline(r)}",
+        lambda: f"dsubmitout {e} {hexes(r, [0, 1, 64, 130])} {deadline(r)}",
+    ])()
+
+
 def transfer_call(r):
     d, i, e = names(r)
     return r.choice([
@@ -240,6 +259,8 @@ def transfer_call(r):
         lambda: f"submitin {e} 64",
         lambda: f"submitout {e} {hexes(r, [0, 1, 16, 63, 64, 130])}",
         lambda: f"submitout {e} {hexes(r, [1, 64])}",
+        lambda: deadline_call(r, e),
+        lambda: deadline_call(r, e),
         lambda: f"poll {e}",
         lambda: f"poll {e}",
         lambda: f"pending {e}",
@@ -337,30 +358,28 @@ def control_words(r):
     return f"{name(r, r.choice('ddi'), 2)} {kind} {to} {numbers}"
 
 
-def control_timeout(r):
-    return r.choice(["0", "50", "500", "1000", "2000", "86400000000001", "max"])
-
-
 def control_call(r):
     d, f = name(r, "d", 2), name(r, "f", 3)
     wanted, data = r.choice([0, 1, 8, 64, 65535]), hexes(r, [0, 1, 8, 64])
     return r.choice([
-        lambda: f"ctlin {control_words(r)} {wanted} {control_timeout(r)}{control_own(r)}",
-        lambda: f"ctlout {control_words(r)} {data} {control_timeout(r)}{control_own(r)}",
-        lambda: f"fin {f} {control_words(r)} {wanted} {control_timeout(r)}",
-        lambda: f"fin {f} {control_words(r)} 64 {control_timeout(r)}",
-        lambda: f"fout {f} {control_words(r)} {data} {control_timeout(r)}",
+        lambda: f"ctlin {control_words(r)} {wanted} {deadline(r)}{control_own(r)}",
+        lambda: f"ctlout {control_words(r)} {data} {deadline(r)}{control_own(r)}",
+        lambda: f"fin {f} {control_words(r)} {wanted} {deadline(r)}",
+        lambda: f"fin {f} {control_words(r)} 64 {deadline(r)}",
+        lambda: f"fout {f} {control_words(r)} {data} {deadline(r)}",
         lambda: f"fpoll {f}",
         lambda: f"fpoll {f}",
         lambda: f"fpoll {f}",
         lambda: f"fwait {f}{control_own(r)}",
         lambda: f"fwait {f} : {control_failure(r)}",
         lambda: f"close {f}",
-        lambda: f"getdesc {d} {r.randrange(1, 8)} {r.randrange(3)} 0000 {control_timeout(r)}{control_own(r)}",
-        lambda: f"langs {d} {control_timeout(r)}{control_own(r)}",
-        lambda: f"langs {d} {control_timeout(r)} : pkt k0 80 {r.choice(STRINGS)}",
-        lambda: f"string {d} {r.randint(1, 255)} 0409 {control_timeout(r)}{control_own(r)}",
-        lambda: f"string {d} 1 0409 {control_timeout(r)} : pkt k0 80 {r.choice(STRINGS)}",
+        lambda: f"getdesc {d} {r.randrange(1, 8)} {r.randrange(3)} 0000 {deadline(r)}{control_own(r)}",
+        lambda: f"langs {d} {deadline(r)}{control_own(r)}",
+        lambda: f"langs {d} {deadline(r)} : pkt k0 80 {r.choice(STRINGS)}",
+        lambda: f"string {d} {r.randint(1, 255)} 0409 {deadline(r)}{control_own(r)}",
+        lambda: f"string {d} 1 0409 {deadline(r)} : pkt k0 80 {r.choice(STRINGS)}",
+        lambda: deadline_call(r, name(r, "e", 2)),
+        lambda: f"poll {name(r, 'e', 2)}",
         lambda: "now",
     ])()
 
@@ -373,6 +392,7 @@ def reader_step(r):
         lambda: f"pkt k0 81 {hexes(r, [64, 65])}",
         lambda: f"fail k0 81 {r.choice(FAILURES)}" if r.random() < 0.6 else "reap",
         lambda: f"refuse k0 submit {r.choice(FAILURES)}" if r.random() < 0.5 else "reap",
+        lambda: f"refuse k0 halt {r.choice(ERRNOS)}" if r.random() < 0.3 else "reap",
         lambda: f"clock {r.randrange(4000)}",
         lambda: "timer",
         lambda: "reap",
@@ -418,6 +438,8 @@ def reader_call(r):
         lambda: f"num {x} {r.choice([1, 2, 4])}",
         lambda: f"cancel {x}\n! reap ; reap ; reap\n{r.choice(['read', 'pollread'])} {x} 8\n{r.choice(['', 'poll'])}{r.choice(['', 's'])}fill {x}",
         lambda: f"cancel {x}",
+        lambda: f"halt {x}",
+        lambda: f"halt {x}",
         lambda: f"close {x}" if r.random() < 0.6 else f"num {x} 2",
         lambda: transfer_call(r),
     ])()
@@ -469,7 +491,7 @@ def writer_step(r):
         lambda: "ack k0 02 ; ack k0 02 ; ack k0 01",
         lambda: f"echo k0 {r.choice(['02', '02', '01'])} 81",
         lambda: "echo k0 02 81 ; echo k0 02 81 ; echo k0 02 81",
-        lambda: f"fail k0 02 {r.choice(FAILURES)}",
+        lambda: f"fail k0 02 {r.choice([*FAILURES, 2, 104, 110])}",
         lambda: f"refuse k0 submit {r.choice(FAILURES)}" if r.random() < 0.6 else "reap",
         lambda: f"clock {r.randrange(4000)}",
         lambda: "reap",
@@ -500,6 +522,7 @@ def writing_call(r):
         lambda: f"wend {x}",
         lambda: f"flush {x}{writer_own(r)}",
         lambda: f"flushend {x}{writer_own(r)}",
+        lambda: f"pollflush {x}",
         lambda: f"pollflush {x}",
         lambda: f"pollflushend {x}",
         lambda: f"pollflushend {x}",
@@ -533,6 +556,51 @@ def lines_of_writers(r):
     if r.random() < 0.4:
         lines += [f"reader r0 e0 {r.choice([8, 64, 64, 128, 192])}", f"num r0 {r.choice([1, 2, 4])}", "pollsread r0 1"]
     return lines + [f"writer w0 e1 {r.choice([8, 64, 64, 128, 512])}", f"num w0 {r.choice([1, 1, 2, 4])}"]
+
+
+def deadline_step(r):
+    return r.choice([
+        lambda: f"pkt k0 81 {hexes(r, [0, 1, 8, 64])}",
+        lambda: "ack k0 02",
+        lambda: f"clock {r.randrange(4000)}",
+        lambda: f"clock {r.randrange(4000)}",
+        lambda: "reap",
+        lambda: "reap ; reap",
+    ])()
+
+
+def deadline_steps(r):
+    return " ; ".join(deadline_step(r) for _ in range(r.randint(1, 3)))
+
+
+def timer_steps(r):
+    return " ; ".join([deadline_steps(r), *r.choice([[], ["timer"], ["timer", "reap ; reap"]])])
+
+
+def due_call(r):
+    """A call on an endpoint whose transfers have deadlines, and which nothing else discards."""
+    e = name(r, "e", 2)
+    return r.choice([
+        lambda: deadline_call(r, e),
+        lambda: deadline_call(r, e),
+        lambda: deadline_call(r, r.choice(["e0", "e1"])),
+        lambda: f"poll {e}",
+        lambda: f"poll {e}",
+        lambda: f"wait {e} {timeout(r)}{r.choice(['', f' : {deadline_steps(r)}'])}",
+        lambda: "now",
+    ])()
+
+
+def awaited_call(r):
+    """The same, or a control transfer that is waited for."""
+    own_steps = r.choice(["", f" : {deadline_steps(r)}"])
+    return due_call(r) if r.random() < 0.7 else f"ctlin {control_words(r)} 64 {deadline(r)}{own_steps}"
+
+
+def lines_of_deadlines(r):
+    """Setup lines and the first calls of a script in which transfers have deadlines."""
+    lines = [f"device k0 1 6 3 1 {DEVICE.format(0, 1)}{CONFIGURATIONS[0]}", "open d0 1 6", "claim d0 0 i0"]
+    return lines + ["endpoint e0 i0 81 bulk-in", "endpoint e1 i0 02 bulk-out"]
 
 
 CONTROLLER = "/sys/devices/pci0"
@@ -641,7 +709,8 @@ def armed_call(r):
     """A refusal, and a line that makes its call."""
     call, line = r.choice(list(LINES_OF.items()))
     d, i, e = names(r)
-    return [f"! refuse {name(r, 'k', 2)} {call} {r.choice(ERRNOS)}", line.format(d=d, i=i, e=e)]
+    line = "halt {x}" if call == "halt" and r.random() < 0.5 else line
+    return [f"! refuse {name(r, 'k', 2)} {call} {r.choice(ERRNOS)}", line.format(d=d, i=i, e=e, x=name(r, "r", 2))]
 
 
 def lines_of_transfers(r):
@@ -700,7 +769,9 @@ MALFORMED = [
     "poll", "poll e64", "poll e00", "poll d0", "\tnow", "now\t", "! ", "!", "! reap ;", "! ; reap", "! now", "clock 1", "now x",
     "now # x", "# \x01", "poll e0 : reap", "wait e0 1 :", "wait e0 1 reap", "wait e0 1000000000000000001", "! clock max",
     "! fail k0 81 0", "! fail k0 81 4096", "! refuse k0 close 5", "! reap 4294967296", "submitin e0 65537", "submitin e0 +1",
-    "submitout e0 1", "submitout e0 0g", "submitin e0 00000000000000000064", "open d0 1 256", "endpoint e0 i0 8 bulk-in",
+    "submitout e0 1", "submitout e0 0g", "submitin e0 00000000000000000064", "dsubmitin e0 64", "dsubmitin e0 65537 1",
+    "dsubmitin r0 64 1", "dsubmitin e0 64 1 : reap", "dsubmitin e0 64 1000000000000000001", "dsubmitout e0 00", "dsubmitout e0 0 1", "dsubmitout w0 00 1",
+    "dsubmitout e0 00 1 2", "open d0 1 256", "endpoint e0 i0 8 bulk-in",
     "endpoint e0 i0 81 iso-in", "device k0 1 6 3 1 -", "device k5 9 9 3 1 -",
     "driver k0 256", "driver d0 0", "driver k0 0", "driver k0 0 : reap", "clone d0 i0", "clone i0 d0", "clone e0 e1", "clone d0",
     "close k0", "close d0 i0", "setconfig d0", "setconfig d0 256", "setconfig i0 1", "reset e0", "active i0", "speed d0 : reap",
@@ -713,6 +784,7 @@ MALFORMED = [
     "fin d0 vendor device 30 0000 0000 64 1", "fpoll f0 : reap", "fpoll e0", "fwait f0 :", "fwait f0 5", "close f0 : reap", "close f064",
     "getdesc d0 256 0 0000 1", "getdesc i0 1 0 0000 1", "langs d0", "langs i0 1", "string d0 0 0409 1", "string d0 1 409 1",
     "detachclaim d0 0", "detach i0 0", "attach d0", "alt i0 256", "alt i0", "getalt d0", "ifdesc i64", "release d0", "halt i0",
+    "halt", "halt w0", "halt e64", "halt r64", "halt r0 1", "halt r0 : reap",
     "reader r0 e0", "reader e0 r0 64", "reader r0 e0 65537", "inner r0 e0", "num r0", "num e0 1", "timeout r0", "cancel i0",
     "read r0 0", "read r0 65537", "read e0 1", "sread r0", "pollread r0 1 : reap", "fill r0 1", "pollfill r0 : reap",
     "sconsume r0", "consume r0 1 : reap", "isend e0", "endmsg r0 1", "close r64",
@@ -741,6 +813,10 @@ def script(seed):
         return "\n".join(walks(r)).encode()
     if r.random() < 0.03:
         return script_of(r, lines_of_crowds(r), lambda: crowd_call(r), 60, crowd_steps)
+    if r.random() < 0.03:
+        return script_of(r, lines_of_deadlines(r), lambda: due_call(r), 60, timer_steps)
+    if r.random() < 0.03:
+        return script_of(r, lines_of_deadlines(r), lambda: awaited_call(r), 60, deadline_steps)
     if r.random() < 0.2:
         return script_of(r, lines_of_trees(r), lambda: tree_call(r) if r.random() < 0.9 else owner_call(r), 40)
     if r.random() < 0.3:
@@ -800,7 +876,7 @@ def kinds_of_script(text):
 
 def kind_of_call(words):
     """Its word, and where that doesn't tell the call the letter of its name."""
-    return f"{words[0]} {words[1][0]}" if words[0] in ("clone", "close", "cancel") else words[0]
+    return f"{words[0]} {words[1][0]}" if words[0] in ("clone", "close", "cancel", "halt") else words[0]
 
 
 def kind_of_answer(call, line):
@@ -815,13 +891,36 @@ def kind_of_answer(call, line):
 SETUP = ["device", "driver", "attr", "deny", "child", "link", "entry", "root", "uevent", "!"]
 
 
+# what may cancel a transfer without a deadline, or wait for a control transfer, but for `ctlin`
+OTHER_ENDS = {it.encode() for it in "cancel close reset xferin xferout fail refuse ctlout getdesc langs string fin fout fwait".split()}
+DEADLINES = ["a deadline that passed by the step timer", "a deadline that passed in the wait for a control transfer"]
+
+
 def kinds_of_calls(text, answers):
     """What each call about owners was answered, and whether a refusal is armed anywhere in the script."""
-    calls = [kind_of_call(words) for words in lines_of(text) if words[0] not in SETUP]
+    calls = [words for words in lines_of(text) if words[0] not in SETUP]
     is_armed = b"refuse" in text
-    for call, line in zip(calls, answers.decode().splitlines()):
+    faulty = set()
+    for words, line in zip(calls, answers.decode().splitlines()):
+        call, told = kind_of_call(words), kind_of_answer(kind_of_call(words), line)
         if call in OF_CALLS:
-            yield call, kind_of_answer(call, line), is_armed
+            yield call, told, is_armed
+        if call == "halt r" and words[1] in faulty:
+            yield call, f"{told} behind a fault", is_armed
+        if told in FAULTS:
+            faulty.add(words[1])
+        elif call != "halt r" or told == "ok":
+            faulty.discard(words[1] if len(words) > 1 else None)
+
+
+def kinds_of_deadlines(text, answers):
+    """What discarded a transfer that was due, in a script in which nothing else cancels one."""
+    words = set(text.split())
+    if b"done cancelled" in answers and words & {b"dsubmitin", b"dsubmitout"} and not words & OTHER_ENDS:
+        if b"ctlin" not in words:
+            yield "a deadline that passed by the step timer"
+        if b"timer" not in words:
+            yield "a deadline that passed in the wait for a control transfer"
 
 
 def kinds_of_answers(text):
@@ -841,6 +940,7 @@ def all_kinds():
     yield from dict.fromkeys(re.findall(r"^\| `([a-z]+)", LANGUAGE.read_text(), re.MULTILINE))
     for head, words in (("refuse", LINES_OF), ("answer", ANSWERS), ("error", ERRORS), ("status", STATUSES), ("end", ENDS)):
         yield from (f"{head} {word}" for word in words)
+    yield from DEADLINES
     for call, (by_rules, by_refusals) in OF_CALLS.items():
         yield from ((call, answer, False) for answer in ["condition", *by_rules])
         yield from ((call, answer, True) for answer in by_refusals)
@@ -872,6 +972,7 @@ def main():
         if one[0] == 0:
             seen.update(kinds_of_script(text))
             seen.update(kinds_of_calls(text, one[1]))
+            seen.update(kinds_of_deadlines(text, one[1]))
     print(f"{count} scripts, {lines} lines of answers: the same")
     missing = [kind if isinstance(kind, str) else f"{kind[0]}: {kind[1]}" for kind in all_kinds() if not seen[kind]]
     print(f"the scripts that were answered have none of: {', '.join(missing)}" if missing else "each kind of line, step, answer and status occurred")

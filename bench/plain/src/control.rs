@@ -53,8 +53,6 @@ pub enum Question {
     Text { index: u8, language: u16 },
 }
 
-/// The longest that a control transfer may take, in nanoseconds: a day.
-const LONGEST: u64 = 86_400_000_000_000;
 const GET_DESCRIPTOR: u8 = 6;
 const STRING: u8 = 3;
 const MOST_DESCRIPTOR_BYTES: usize = 4096;
@@ -98,7 +96,7 @@ impl Host {
         if !self.has_free_ticket() {
             return None;
         }
-        let deadline = self.kernel.clock.saturating_add(time.min(LONGEST));
+        let deadline = self.kernel.deadline_after(time);
         let packet = setup.packet(&data);
         let bytes = match data {
             Data::In(_) => Vec::new(),

@@ -365,21 +365,23 @@ impl Host {
             && self.has_free_ticket()
     }
 
-    /// Hands a transfer in, or gives none where the call is barred.
-    pub fn submit(&mut self, key: EndpointKey, data: Data) -> Option<()> {
+    /// Hands a transfer in, at most for so long where it has a time, or gives none where the call is
+    /// barred.
+    pub fn submit(&mut self, key: EndpointKey, data: Data, time: Option<u64>) -> Option<()> {
         if !self.has_room(key, &data) {
             return None;
         }
+        let deadline = time.map(|time| self.kernel.deadline_after(time));
         let room = match &data {
             Data::In(length) => *length,
             Data::Out(bytes) => bytes.len(),
         };
-        self.hand_in(key, data, room);
+        self.hand_in(key, data, room, deadline);
         Some(())
     }
 
     /// Hands a transfer in, whose buffer has this capacity.
-    pub fn hand_in(&mut self, key: EndpointKey, data: Data, room: usize) {
+    pub fn hand_in(&mut self, key: EndpointKey, data: Data, room: usize, deadline: Option<u64>) {
         let endpoint = &mut self.endpoints[key];
         let maximum = endpoint.maximum;
         let is_whole = match data {
@@ -402,7 +404,7 @@ impl Host {
             is_reaped: false,
         };
         let ticket = if is_whole {
-            self.kernel.submit(transfer)
+            self.kernel.submit(transfer, deadline)
         } else {
             self.kernel.refuse(transfer, errno::INVAL)
         };
@@ -455,7 +457,7 @@ impl Host {
         if self.pending(key) > 0 {
             return None;
         }
-        self.submit(key, data)?;
+        self.submit(key, data, None)?;
         self.wait(key, time, steps).or_else(|| {
             self.cancel(key);
             self.wait(key, u64::MAX, steps)

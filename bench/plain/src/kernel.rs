@@ -11,6 +11,9 @@ use std::sync::Arc;
 /// A ticket's number.
 pub type Ticket = usize;
 
+/// The longest that a transfer with a deadline may take, in nanoseconds: a day.
+const LONGEST: u64 = 86_400_000_000_000;
+
 /// What a simulated device is.
 pub struct Device {
     pub bus: u8,
@@ -324,16 +327,20 @@ impl Kernel {
         plug.device.setting(place).map(|_| ()).ok_or(errno::INVAL)
     }
 
-    /// Hands a transfer in.
-    pub fn submit(&mut self, transfer: Transfer) -> Ticket {
+    /// The deadline of what is handed in now and may take so long.
+    pub fn deadline_after(&self, time: u64) -> u64 {
+        self.clock.saturating_add(time.min(LONGEST))
+    }
+
+    /// Hands a transfer in, which ends at its deadline at the latest, where it has one.
+    pub fn submit(&mut self, transfer: Transfer, deadline: Option<u64>) -> Ticket {
         match self.call(transfer.device, KernelCall::Submit) {
             Err(errno) => self.refuse(transfer, errno),
-            Ok(()) => self.accept(transfer),
+            Ok(()) => self.accept(transfer, deadline),
         }
     }
 
-    /// Hands a control transfer in, whose direction and length the setup packet tells. It ends at
-    /// the deadline at the latest.
+    /// Hands a control transfer in, whose direction and length the setup packet tells.
     pub fn submit_control(
         &mut self,
         device: Name,
@@ -342,7 +349,7 @@ impl Kernel {
         deadline: u64,
     ) -> Ticket {
         let length = usize::from(u16::from_le_bytes([setup[6], setup[7]]));
-        let ticket = self.submit(Transfer {
+        let transfer = Transfer {
             device,
             endpoint: setup[0] & 0x80,
             maximum: length,
@@ -352,11 +359,8 @@ impl Kernel {
             count: 0,
             outcome: None,
             is_reaped: false,
-        });
-        if self.transfers[ticket].outcome.is_none() {
-            self.deadlines.push(Reverse((deadline, ticket)));
-        }
-        ticket
+        };
+        self.submit(transfer, Some(deadline))
     }
 
     /// Discards the tickets that are due, by deadline and then number.
@@ -370,8 +374,11 @@ impl Kernel {
         }
     }
 
-    fn accept(&mut self, transfer: Transfer) -> Ticket {
+    fn accept(&mut self, transfer: Transfer, deadline: Option<u64>) -> Ticket {
         let ticket = self.transfers.len();
+        if let Some(deadline) = deadline {
+            self.deadlines.push(Reverse((deadline, ticket)));
+        }
         if let Some(plug) = self.plugs.get_mut(transfer.device) {
             plug.open[usize::from(transfer.endpoint)].push_back(ticket);
         }

@@ -61,7 +61,7 @@ fn one_device() -> Kernel {
 
 /// Hands a transfer in, and the packet that ends it.
 fn feed(kernel: &mut Kernel, byte: u8) -> Ticket {
-    let ticket = kernel.submit(Transfer {
+    let transfer = Transfer {
         device: 0,
         endpoint: ENDPOINT,
         maximum: PACKET,
@@ -71,7 +71,8 @@ fn feed(kernel: &mut Kernel, byte: u8) -> Ticket {
         count: 0,
         outcome: None,
         is_reaped: false,
-    });
+    };
+    let ticket = kernel.submit(transfer, None);
     kernel.step(Step::Packet {
         device: 0,
         endpoint: ENDPOINT,

@@ -3,6 +3,7 @@
 use crate::errno;
 use crate::host::{Completion, Data, EndpointKey, Host, Steps};
 use crate::kernel::Outcome;
+use crate::refusal::Refusal;
 use crate::text::{Show, Text};
 
 /// A reader of an endpoint.
@@ -152,7 +153,7 @@ impl Host {
 
     fn submit_missing(&mut self, reader: &Reader, depth: usize) {
         for _ in self.pending(reader.endpoint)..depth {
-            self.hand_in(reader.endpoint, Data::In(reader.size), reader.size);
+            self.hand_in(reader.endpoint, Data::In(reader.size), reader.size, None);
         }
     }
 
@@ -171,6 +172,13 @@ impl Host {
     pub fn cancel_reader(&mut self, reader: &mut Reader) {
         reader.depth = 0;
         self.cancel(reader.endpoint);
+    }
+
+    /// Clears the halt of a reader's endpoint, and the error that the reader kept.
+    pub fn clear_reader_halt(&mut self, reader: &mut Reader) -> Result<(), Refusal> {
+        self.clear_halt(reader.endpoint)?;
+        reader.error = None;
+        Ok(())
     }
 
     /// The bytes that stand, once the reader has turned until there is something to tell.

@@ -154,7 +154,8 @@ pub enum InterfaceCall {
 }
 
 pub enum EndpointCall {
-    Submit(Data),
+    /// At most for so long, where it has a time.
+    Submit(Data, Option<u64>),
     Pending,
     Poll,
     Wait(Patience),
@@ -168,6 +169,7 @@ pub enum ReaderCall {
     SetDepth(usize),
     SetTime(u64),
     Cancel,
+    ClearHalt,
     Close,
     /// At most so many bytes.
     Read(Framing, usize, Vec<Step>),
@@ -391,8 +393,12 @@ fn endpoint_call(verb: &[u8], rest: &[&[u8]]) -> Option<EndpointCall> {
     Some(match (verb, rest) {
         (b"poll", []) => EndpointCall::Poll,
         (b"pending", []) => EndpointCall::Pending,
-        (b"submitin", [n]) => EndpointCall::Submit(Data::In(length(n)?)),
-        (b"submitout", [data]) => EndpointCall::Submit(Data::Out(bytes(data)?)),
+        (b"submitin", [n]) => EndpointCall::Submit(Data::In(length(n)?), None),
+        (b"submitout", [data]) => EndpointCall::Submit(Data::Out(bytes(data)?), None),
+        (b"dsubmitin", [n, word]) => EndpointCall::Submit(Data::In(length(n)?), Some(time(word)?)),
+        (b"dsubmitout", [data, word]) => {
+            EndpointCall::Submit(Data::Out(bytes(data)?), Some(time(word)?))
+        }
         (b"wait", rest) => EndpointCall::Wait(patience(rest)?),
         (b"xferin", [n, rest @ ..]) => {
             EndpointCall::Transfer(Data::In(length(n)?), patience(rest)?)
@@ -430,6 +436,7 @@ fn reader_call(verb: &[u8], rest: &[&[u8]]) -> Option<ReaderCall> {
         (b"num", [count]) => ReaderCall::SetDepth(length(count)?),
         (b"timeout", [word]) => ReaderCall::SetTime(time(word)?),
         (b"cancel", []) => ReaderCall::Cancel,
+        (b"halt", []) => ReaderCall::ClearHalt,
         (b"close", []) => ReaderCall::Close,
         (b"pollread", [most]) => ReaderCall::PollRead(Plain, read_length(most)?),
         (b"pollsread", [most]) => ReaderCall::PollRead(UntilShort, read_length(most)?),

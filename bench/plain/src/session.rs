@@ -314,8 +314,8 @@ impl Session {
     fn endpoint_call(&mut self, name: Name, call: EndpointCall) -> Option<Answer> {
         let endpoint = self.endpoints.get(name).copied();
         match call {
-            EndpointCall::Submit(data) => {
-                self.host.submit(endpoint?, data)?;
+            EndpointCall::Submit(data, time) => {
+                self.host.submit(endpoint?, data, time)?;
                 Some(Answer::Ok)
             }
             EndpointCall::Pending => Some(Answer::Count(self.host.pending(endpoint?))),
@@ -418,6 +418,7 @@ impl Session {
             ReaderCall::SetDepth(depth) => self.host.set_depth(reader, depth)?,
             ReaderCall::SetTime(time) => reader.time = time,
             ReaderCall::Cancel => self.host.cancel_reader(reader),
+            ReaderCall::ClearHalt => return Some(done(self.host.clear_reader_halt(reader))),
             ReaderCall::Consume(count) => {
                 if count > reader.available() {
                     return None;

@@ -90,7 +90,7 @@ impl Host {
     }
 
     fn send(&mut self, writer: &Writer, bytes: Vec<u8>, room: usize) {
-        self.hand_in(writer.endpoint, Data::Out(bytes), room);
+        self.hand_in(writer.endpoint, Data::Out(bytes), room, None);
     }
 
     /// Takes the oldest transfer, whose buffer is kept where it may be filled again.
