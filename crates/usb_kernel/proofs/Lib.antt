@@ -46,3 +46,5 @@ pub mod FinishLemmas
 pub mod AddLemmas
 pub mod RecordLemmas
 pub mod WalkLemmas
+pub mod CountLemmas
+pub mod FrontLemmas

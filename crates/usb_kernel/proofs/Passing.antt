@@ -42,7 +42,7 @@ pub after_echo-some : (past : List Event) (d o i t j : ℕ) → o < 128 → 128 
 after_echo-some past d o i t j out into sends takes = rw (lt-ltb o 128 out, le-leb 128 i into, sends, takes) refl
 
 -- the bytes that an acknowledgement takes of a ticket are those that it takes of its row
-row_taken-row_of : (s : Ticket) (f : Fate) (bytes : List ℕ) → s.body ≡ Sent bytes → f.reaped ≡ false → taken_of (Some s) f ≡ row_taken (row_of s f)
+pub row_taken-row_of : (s : Ticket) (f : Fate) (bytes : List ℕ) → s.body ≡ Sent bytes → f.reaped ≡ false → taken_of (Some s) f ≡ row_taken (row_of s f)
 row_taken-row_of s f bytes is_out kept =
     let counted : min (length bytes) (min (length bytes) (s.maximum * f.acks) + s.maximum) ≡ min (length bytes) (s.maximum * (f.acks + 1)) = omega arith in
     grind (arith, common_steps)

@@ -18,10 +18,10 @@ use Rattle.usb_kernel.proofs.StepLemmas.{All-slice_get}
 use Rattle.usb_kernel.proofs.Unplugs.{unplugged-finished}
 use Rattle.usb_kernel.proofs.RecordLemmas.{rows-length, row-at}
 
-abbrev number_if : Bool → ℕ
+abbrev pub number_if : Bool → ℕ
 number_if b = cond b 1 0
 
-count-cons : (p : TicketRow → Bool) (x : TicketRow) (xs : List TicketRow) → count_by p (x ∷ xs) ≡ number_if (p x) + count_by p xs
+pub count-cons : (p : TicketRow → Bool) (x : TicketRow) (xs : List TicketRow) → count_by p (x ∷ xs) ≡ number_if (p x) + count_by p xs
 count-cons p x xs = sum_by-cons (λ r. number_if (p r)) x xs
 
 -- a row that passes counts
@@ -64,6 +64,11 @@ abbrev pub way_left : ℕ → Option ℕ → ℕ
 way_left n None = 0
 way_left n (Some t) = suc n - t
 
+-- it has less to go from the next one
+pub way-less : (p : ℕ → Bool) (n t : ℕ) (o : Option ℕ) → IsFirst p (t + 1) o → t < n → way_left n o < way_left n (Some t)
+way-less p n t None first within = omega arith
+way-less p n t (Some j) first within = let far = first.passes j refl in omega arith
+
 -- the walk stands at the first ticket from k on that is not reaped: the device is gone for the rows before k, and those from k on are
 -- as they were. There were at most three look-ups for each ticket that was passed
 pub record HasUnplugged (d : ℕ) (rows : List TicketRow) (records : List Record) (lists : TicketLists) (next : Option ℕ) (start steps freed : ℕ) : Type 0 where
@@ -83,10 +88,10 @@ passes-at : (p : TicketRow → Bool) (records : List Record) (t : ℕ) (r : Reco
 passes-at p records t r at = ap (λ o. option_map_or (λ (x : Record). p x.row) o false) at
 
 -- it can be told by the rows
-abbrev passes_by : (TicketRow → Bool) → Option TicketRow → Bool
+abbrev pub passes_by : (TicketRow → Bool) → Option TicketRow → Bool
 passes_by p o = option_map_or p o false
 
-passes-rows : (p : TicketRow → Bool) (records : List Record) (t : ℕ) → row_passes p records t ≡ passes_by p (slice_get (rows_of records) t)
+pub passes-rows : (p : TicketRow → Bool) (records : List Record) (t : ℕ) → row_passes p records t ≡ passes_by p (slice_get (rows_of records) t)
 passes-rows p records t =
     from-record (slice_get records t) ∙ ap (passes_by p) (sym (slice_get-map (λ (r : Record). r.row) records t))
   where
@@ -191,11 +196,7 @@ module _ (d : ℕ) (rows : List TicketRow) (records : List Record) (lists : Tick
     pub unplug-less : way_left (length rows) r.unreaped.after < way_left (length rows) (Some t)
     unplug-less =
         let there = w.here.passes t refl in
-        less r.unreaped.after (w.listed.unreaped.after t r.unreaped there.1 (rw at refl)) (omega (arith, unplug-inside, w.long))
-      where
-        less : (o : Option ℕ) → IsFirst (row_passes is_unreaped_row records) (t + 1) o → t < length rows → way_left (length rows) o < way_left (length rows) (Some t)
-        less None first within = omega arith
-        less (Some j) first within = let far = first.passes j refl in omega arith
+        way-less (row_passes is_unreaped_row records) (length rows) t r.unreaped.after (w.listed.unreaped.after t r.unreaped there.1 (rw at refl)) (omega (arith, unplug-inside, w.long))
 
 -- at the end every row was passed
 pub unplug-end : (d : ℕ) (rows : List TicketRow) (records : List Record) (lists : TicketLists) (start steps freed : ℕ) → All IsRoomy rows → HasUnplugged d rows records lists None start steps freed → (rows_of records ≡ map (row_unplugged d) rows) × (steps ≤ start + 3 * count_by is_unreaped_row rows)

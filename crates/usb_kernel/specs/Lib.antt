@@ -32,6 +32,7 @@ pub mod Extends
 pub mod Ahead
 pub mod Openings
 pub mod Waits
+pub mod Fronts
 pub mod Laws
 pub mod ClaimLaws
 pub mod CallLaws

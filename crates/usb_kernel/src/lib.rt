@@ -7,6 +7,7 @@ mod completion;
 mod devices;
 mod echo;
 mod event;
+mod fronts;
 mod journal;
 mod kernel;
 mod laws;

@@ -4,6 +4,8 @@ ghost use Rattle.std.specs.Prelude.{◌≡◌, ◌+◌, ◌<◌, ◌≤◌, IsSo
 ghost use Rattle.usb_kernel.specs.Fates.{fresh, refused_fate};
 ghost use Rattle.usb_kernel.specs.Submissions.{body_of, ticket_of, refused_of, IsWhole};
 ghost use Rattle.usb_kernel.specs.Completions.{buffer_for, refused_done};
+ghost use Rattle.std.specs.Option.{option_map};
+ghost use Rattle.usb_kernel.specs.Passing.{row_taken};
 ghost use Rattle.usb_kernel.specs.Rows.{IsRoomy, is_reapable_row, row_info, owed, row_with_packet, row_with_ack, row_done, row_of};
 
 use crate::errno;
@@ -158,6 +160,23 @@ impl TicketRow {
             if self.count >= len {
                 self.status = Some(0);
             }
+        }
+    }
+
+    /// The packet that its next acknowledgement takes.
+    pub(crate) fn next_packet(&self) -> Option<&[u8]>
+        requires output { self.now.endpoint < 128 }
+        requires unfinished { self.now.status ≡ None }
+        requires roomy { IsRoomy self.now }
+        ensures packet { option_map (λ bytes. bytes.now) result ≡ Some (row_taken self.now) }
+    {
+        match &self.buffer {
+            Some(buffer) => {
+                let start = self.count;
+                let end = start + self.maximum.min(buffer.len() - start);
+                Some(&buffer.as_slice()[start..end])
+            }
+            None => None,
         }
     }
 

@@ -31,8 +31,8 @@ use usb_desc::NoMemory;
 /// The records of the tickets, and the lists of those that are not reaped.
 #[derive(Drop)]
 pub(crate) struct TicketTable {
-    tickets: Tickets,
-    lists: TicketLists,
+    pub(crate) tickets: Tickets,
+    pub(crate) lists: TicketLists,
 }
 
 impl Model for TicketTable {

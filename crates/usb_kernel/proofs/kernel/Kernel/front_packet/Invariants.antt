@@ -1,0 +1,4 @@
+use Rattle.usb_kernel.proofs.kernel.Kernel.front_packet.Given as goal
+
+abbrev pub ghosts-front_with : goal.ghosts-front_with
+ghosts-front_with a = record { name = a.blank.name; parts = a.blank.parts }
