@@ -5,6 +5,7 @@ use Rattle.std.proofs.lemmas.Option.{same_Some}
 use Rattle.usb_device_endpoint.specs.BusState.{BusState, with_owner, without_owner}
 use Rattle.usb_device_endpoint.specs.EndpointState.{EndpointState}
 use Rattle.usb_device_endpoint.specs.Handles.{IsApart, AreHeld, Stands, KeepsOthers}
+use Rattle.usb_device_endpoint.proofs.Frames.{keeps_others}
 
 -- a ticket that nobody holds is not one that is held
 pub free-ne : (owner : ℕ → Option ℕ) (t u k : ℕ) → owner t ≡ None → owner u ≡ Some k → t ≢ u
@@ -38,13 +39,12 @@ Stands-taken old new e next t ts stands is after same =
 -- a ticket of this handle has ended
 pub KeepsOthers-end : (old mid new : BusState) (key t : ℕ) → KeepsOthers old mid key → mid.owner t ≡ Some key → new ≡ record mid { owner = without_owner mid.owner t } → KeepsOthers old new key
 KeepsOthers-end old mid new key t kept own after =
-    rw after (record {
-      tickets = λ u k other was.
-          let now = kept.tickets u k other was in
-          let ne : t ≢ u = λ e. other (same_Some k key (sym now ∙ ap mid.owner (sym e) ∙ own)) in
-          without_owner-other mid.owner t u ne ∙ now;
-      keys = kept.keys;
-    })
+    rw after (keeps_others old (record mid { owner = without_owner mid.owner t }) key
+    (λ u k other was.
+    let now = kept.tickets u k other was in
+    let ne : t ≢ u = λ e. other (same_Some k key (sym now ∙ ap mid.owner (sym e) ∙ own)) in
+    without_owner-other mid.owner t u ne ∙ now)
+    kept.keys)
 
 -- nothing of what a handle stands on has changed
 pub Stands-left : (old new : BusState) (e next : EndpointState) → Stands old e → new ≡ old → next.key ≡ e.key → next.pending ≡ e.pending → Stands new next
@@ -59,4 +59,5 @@ others_in_turn old mid new key first second =
     record {
       tickets = λ t k other own. second.tickets t k other (first.tickets t k other own);
       keys = λ k other is. second.keys k other (first.keys k other is);
+      stand = λ e other stands. second.stand e other (first.stand e other stands);
     }

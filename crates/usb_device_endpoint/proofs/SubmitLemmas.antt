@@ -12,7 +12,8 @@ use Rattle.usb_device_endpoint.specs.declared.route.Route.{Route}
 use Rattle.usb_device_endpoint.specs.BusState.{BusState, with_owner}
 use Rattle.usb_device_endpoint.specs.Submitted.{Entered, IsRefused}
 use Rattle.usb_device_endpoint.specs.EndpointState.{EndpointState, route_of}
-use Rattle.usb_device_endpoint.specs.Handles.{IsApart, AreHeld, Stands}
+use Rattle.usb_device_endpoint.specs.Handles.{IsApart, AreHeld, Stands, KeepsOthers}
+use Rattle.usb_device_endpoint.proofs.Frames.{keeps_others}
 use Rattle.usb_kernel.specs.WholePackets.{is_whole}
 use Rattle.usb_device_endpoint.specs.Submits.{HandsOver, is_valid}
 use Rattle.usb_device_endpoint.proofs.HandleLemmas.{free-ne, with_owner-other, with_owner-same}
@@ -43,6 +44,15 @@ Stands-entered old new e next deadline b refusal stands free done after =
       key_is_open = ap (λ (f : ℕ → Bool). f e.key) done.keys ∙ stands.key_is_open;
       held = subst (λ (f : ℕ → Option ℕ). AreHeld f e.key (e.pending ++ length (tickets old.past) ∷ [])) (sym done.owner) (AreHeld-append old.owner e.key (length (tickets old.past)) e.pending free stands.held);
     })
+
+pub others-entered : (old new : BusState) (to : Route) (deadline : Option ℕ) (b : BufferState) (refusal : Option ℕ) (key : ℕ) → old.owner (length (tickets old.past)) ≡ None → Entered old new to deadline b refusal → KeepsOthers old new key
+others-entered old new to deadline b refusal key free done =
+    let n = length (tickets old.past) in
+    keeps_others old new key
+    (λ t k other own.
+    let ne : n ≢ t = free-ne old.owner n t k free own in
+    ap (λ (f : ℕ → Option ℕ). f t) done.owner ∙ with_owner-other old.owner n to.key t ne ∙ own)
+    (λ k other is. ap (λ (f : ℕ → Bool). f k) done.keys ∙ is)
 
 valid-in : (e : EndpointState) (b : BufferState) → is_valid e b ≡ true → 128 ≤ e.address → is_whole e.maximum b.requested ≡ true
 valid-in e b valid le = let in_ : nat_le 128 e.address ≡ true = le-leb 128 e.address le in rw in_ at valid

@@ -1,5 +1,5 @@
 -- What an endpoint is to its users.
-use Rattle.std.specs.Prelude.{ℕ, ◌<◌, List}
+use Rattle.std.specs.Prelude.{ℕ, ◌<◌, ◌^◌, List}
 use Rattle.usb_desc.specs.Fields.{direction_of_address}
 use Rattle.usb_desc.specs.declared.types.Direction.{Direction}
 use Rattle.usb_desc.specs.declared.types.TransferType.{TransferType}
@@ -27,9 +27,11 @@ route_of e =
       key = e.key;
     }
 
--- an endpoint of these types and directions: its type and the direction of its address are among them, and packets have a size
+-- an endpoint of these types and directions: its type and the direction of its address are among
+-- them, and packets have a size, of 11 bits
 pub record IsOf (types : TransferType → Type 0) (directions : Direction → Type 0)
     (kind : TransferType) (address maximum : ℕ) : Type 0 where
   pub some : 0 < maximum
+  pub small : maximum < 2 ^ 11
   pub direction : directions (direction_of_address address)
   pub type : types kind

@@ -18,7 +18,8 @@ pub record Stands (b : BusState) (e : EndpointState) : Type 0 where
   pub key_is_open : b.keys e.key ≡ true
   pub held : AreHeld b.owner e.key e.pending
 
--- what endpoints of other keys hold has not ended
+-- what endpoints of other keys hold has not ended, and those that stood stand
 pub record KeepsOthers (old new : BusState) (key : ℕ) : Type 0 where
   pub tickets : (t k : ℕ) → k ≢ key → old.owner t ≡ Some k → new.owner t ≡ Some k
   pub keys : (k : ℕ) → k ≢ key → old.keys k ≡ true → new.keys k ≡ true
+  pub stand : (e : EndpointState) → e.key ≢ key → Stands old e → Stands new e

@@ -85,6 +85,7 @@ impl<T: KnownType, D: KnownDirection> Endpoint<T, D> {
     /// An endpoint with nothing pending. The maximum packet size is in bytes.
     pub fn new(alloc: Global, device: u8, address: u8, maximum: usize, key: usize) -> Self
         requires packets { 0 < maximum }
+        requires small { maximum < 2 ^ 11 }
         requires direction { direction_of_address address ≡ D.DIR }
         ensures fresh { result ≡ record {
           device = device;
@@ -181,6 +182,7 @@ impl<T: EndpointType, D: EndpointDirection> Endpoint<T, D> {
     pub fn max_packet_size(&self) -> usize
         ensures maximum { result ≡ self.now.maximum }
         ensures packets { 0 < result }
+        ensures small { result < 2 ^ 11 }
     {
         self.maximum
     }
@@ -192,7 +194,8 @@ impl<T: EndpointType, D: EndpointDirection> Endpoint<T, D> {
         self.pending.len()
     }
 
-    /// An empty buffer of this capacity, which asks for as many bytes.
+    /// An empty buffer of this capacity, which asks for as many bytes: it rounds nothing up to whole
+    /// packets, which a submission to an IN endpoint needs.
     pub fn allocate(&self, len: usize) -> Result<Buffer, NoMemory>
         requires small { len < 2 ^ 31 }
         ensures empty { IfOk result (λ b. b ≡ record { bytes = []; requested = len; room = len }) }

@@ -1,7 +1,11 @@
-use Rattle.std.proofs.Common.{Some, None, refl, ap, ◌∙◌}
+use Rattle.std.proofs.Common.{ℕ, Some, None, refl, ap, ◌∙◌, subst}
 use Rattle.std.specs.Prelude.{is_some}
+use Rattle.usb_device_endpoint.specs.BusState.{BusState}
+use Rattle.usb_device_endpoint.specs.EndpointState.{EndpointState}
+use Rattle.usb_device_endpoint.specs.Handles.{KeepsOthers}
 use Rattle.usb_device_endpoint.specs.Polls.{in_poll}
-use Rattle.usb_device_endpoint.proofs.HandleLemmas.{AreHeld-at, Stands-taken, Stands-left}
+use Rattle.usb_device_endpoint.proofs.Frames.{others-same}
+use Rattle.usb_device_endpoint.proofs.HandleLemmas.{AreHeld-at, KeepsOthers-end, Stands-taken, Stands-left}
 use Rattle.usb_device_endpoint.proofs.PollLemmas.{value-came, value-none, polled-took, polled-left, poll-is}
 use Rattle.usb_device_endpoint.proofs.endpoint.Endpoint.poll_next_complete.Goals as goal
 use Rattle.usb_device_endpoint.proofs.endpoint.Endpoint.poll_next_complete.Goals.{in-Some, in-None}
@@ -24,6 +28,24 @@ returns-clause-stands g c =
           let left = w.in-None.ensures.left in
           Stands-left (g.B.Bus.calls.state c.args.bus.now) _ _ _ stands (ap g.B.Bus.calls.state left.rest) refl left.queue
     ]
+
+pub returns-clause-others : goal.returns-clause-others
+returns-clause-others g c =
+    let old = g.B.Bus.calls.state c.args.bus.now in
+    let new = g.B.Bus.calls.state c.take_completed_from_queue.new.s in
+    let stands = rw (← c.self.view_is) at c.requires.stands in
+    let key = ap (λ (e : EndpointState). e.key) c.self.view_is in
+    subst (λ (k : ℕ). KeepsOthers old new k) key
+    (elim c.match-take_completed_from_queue.branch [
+      | in-Some w ↦
+          let took = w.in-Some.ensures.taken in
+          let held = rw took.was at stands.held in
+          let next = ap (g.B.Bus.calls.state) took.rest ∙ g.met.B.Bus.state_taken c.args.bus.now took.front in
+          KeepsOthers-end old old new c.self.inside.key took.front (others-same old old c.self.inside.key refl refl) held.0 next
+      | in-None w ↦
+          let rest = ap g.B.Bus.calls.state w.in-None.ensures.left.rest in
+          others-same old new c.self.inside.key (ap (λ (b : BusState). b.owner) rest) (ap (λ (b : BusState). b.keys) rest)
+    ])
 
 pub returns-clause-polled : goal.returns-clause-polled
 returns-clause-polled g c =

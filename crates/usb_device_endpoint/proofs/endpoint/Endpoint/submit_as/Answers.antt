@@ -4,7 +4,7 @@ use Rattle.usb_kernel.specs.Submissions.{IsWhole}
 use Rattle.usb_device_endpoint.specs.declared.route.Route.{Route}
 use Rattle.usb_device_endpoint.specs.Routes.{submission_of}
 use Rattle.usb_device_endpoint.specs.Submitted.{Entered}
-use Rattle.usb_device_endpoint.proofs.SubmitLemmas.{IsWhole-valid, Stands-entered}
+use Rattle.usb_device_endpoint.proofs.SubmitLemmas.{IsWhole-valid, Stands-entered, others-entered}
 use Rattle.usb_device_endpoint.proofs.endpoint.Endpoint.submit_as.Goals as goal
 
 pub enter-requires-clause-whole : goal.enter-requires-clause-whole
@@ -17,3 +17,8 @@ returns-in-Ok-clause-stands g c =
     let enters = c.in-Ok.ensures.state in
     let ticket = subst (λ (to : Route). Entered (g.B.Bus.calls.state c.args.bus.now) (g.B.Bus.calls.state c.enter.new.bus) to c.args.deadline c.args.buf enters.refusal) c.route-to.ensures.route enters.ticket in
     Stands-entered (g.B.Bus.calls.state c.args.bus.now) _ c.args.self.now _ c.args.deadline c.args.buf enters.refusal c.requires.stands c.in-Ok.ensures.fresh ticket (grind (arith, common_steps))
+
+pub returns-in-Ok-clause-others : goal.returns-in-Ok-clause-others
+returns-in-Ok-clause-others g c =
+    let enters = c.in-Ok.ensures.state in
+    others-entered (g.B.Bus.calls.state c.args.bus.now) (g.B.Bus.calls.state c.enter.new.bus) c.route-to.result c.args.deadline c.args.buf enters.refusal c.args.self.now.key c.in-Ok.ensures.fresh enters.ticket

@@ -2,6 +2,7 @@ use Rattle.std.proofs.Common.{arith, subst, refl}
 use Rattle.usb_device_endpoint.specs.EndpointState.{EndpointState}
 use Rattle.usb_device_endpoint.specs.Handles.{KeepsOthers}
 use Rattle.usb_device_endpoint.specs.Waits.{front_of, EndedWhy}
+use Rattle.usb_device_endpoint.proofs.Frames.{others-same}
 use Rattle.usb_device_endpoint.proofs.HandleLemmas.{others_in_turn}
 use Rattle.usb_device_endpoint.proofs.WaitLemmas.{wait-vain}
 use Rattle.usb_device_endpoint.proofs.BlockingLemmas.{IsFinished-later, time-is_not_up, less-left}
@@ -12,7 +13,7 @@ pub waits-init : goal.waits-init
 waits-init g c = record {
   same = refl;
   stands = c.requires.stands;
-  others = record { tickets = λ t k apart held. held; keys = λ k apart open_. open_ };
+  others = others-same _ _ _ refl refl;
   finished = c.requires.finished;
   seconds = seconds-first g.B.Bus.calls (front_of c.args.self.now.pending) c.args.bus.now;
   handles = g.met.B.Bus.handles_same c.args.bus.now;
