@@ -19,6 +19,7 @@ use Rattle.usb_kernel.proofs.Completions.{completion-refused}
 use Rattle.usb_kernel.proofs.Extends.{extends-event}
 use Rattle.usb_kernel.specs.TransferCompletions.{transfer_completion}
 use Rattle.usb_device_endpoint.specs.Handles.{KeepsOthers}
+use Rattle.usb_device_endpoint.proofs.Frames.{keeps_others}
 use Rattle.usb_device_endpoint.specs.Waits.{is_reaped}
 use Rattle.usb_device_ledger.specs.declared.opened.OpenDevice.{OpenDevice}
 use Rattle.usb_device_ledger.specs.TicketStates as slot
@@ -91,7 +92,6 @@ owner-push (y ∷ ys) x (suc t) k held = owner-push ys x t k held
 pub started-others : (h : HostState) (s : Submission) (key : ℕ) → KeepsOthers (bus_of h) (bus_of (host_started h s)) key
 unfolding host_started
 started-others h s key =
-    record {
-      tickets = λ t k other held. owner-push h.tickets _ t k held;
-      keys = λ k other open_. key-kept h.endpoints (control_endpoint s.endpoint) k open_;
-    }
+    keeps_others (bus_of h) (bus_of (host_started h s)) key
+    (λ t k other held. owner-push h.tickets _ t k held)
+    (λ k other open_. key-kept h.endpoints (control_endpoint s.endpoint) k open_)

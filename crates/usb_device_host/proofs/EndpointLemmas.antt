@@ -15,6 +15,7 @@ use Rattle.usb_device_host.specs.HostBus.{bus_of, key_at, owner_at}
 use Rattle.usb_device_host.specs.EndpointOpens.{with_endpoint}
 use Rattle.usb_device_endpoint.specs.EndpointState.{EndpointState}
 use Rattle.usb_device_endpoint.specs.Handles.{Stands, KeepsOthers}
+use Rattle.usb_device_endpoint.proofs.Frames.{keeps_others}
 use Rattle.usb_device_host.specs.Owners.{is_in_use}
 use Rattle.usb_device_host.specs.EndpointRefusals.{endpoint_tried, same_direction, is_type}
 use Rattle.usb_kernel_devices.specs.declared.step.KernelCall.TheVariants as call
@@ -104,7 +105,6 @@ endpoint-others h new device i address key is =
     let e : HostEndpoint = record { interface = Some i; address = address; is_open = true } in
     let endpoints : new.endpoints ≡ h.endpoints ++ Some e ∷ [] = ap (λ (x : HostState). x.endpoints) is ∙ ap (λ (es : List (Option HostEndpoint)). es ++ Some e ∷ []) (asked-endpoints h device) in
     let tickets : new.tickets ≡ h.tickets = ap (λ (x : HostState). x.tickets) is ∙ ap (λ (x : HostState). x.tickets) (asked-is h device) in
-    record {
-      tickets = λ t k other held. ap (λ (ts : List HostTicket). owner_at ts t) tickets ∙ held;
-      keys = λ k other open_. ap (λ (es : List (Option HostEndpoint)). key_at es k) endpoints ∙ key-kept h.endpoints e k open_;
-    }
+    keeps_others (bus_of h) (bus_of new) key
+    (λ t k other held. ap (λ (ts : List HostTicket). owner_at ts t) tickets ∙ held)
+    (λ k other open_. ap (λ (es : List (Option HostEndpoint)). key_at es k) endpoints ∙ key-kept h.endpoints e k open_)

@@ -1,6 +1,6 @@
 //! Endpoints of claimed interfaces are opened.
 
-ghost use Rattle.std.specs.Prelude.{◌≡◌, ◌<◌, length, set, OnOk, OnErr, IfOk, IsSome};
+ghost use Rattle.std.specs.Prelude.{◌≡◌, ◌<◌, ◌^◌, length, set, OnOk, OnErr, IfOk, IsSome};
 ghost use Rattle.std.specs.Option.{ForSome, option_copied};
 ghost use Rattle.usb_desc.specs.Fields.{direction_of_address};
 ghost use Rattle.usb_kernel_devices.specs.declared.step.KernelCall.{KernelCall};
@@ -48,6 +48,7 @@ fn maximum_of(
     is_used: bool,
 ) -> Result<usize, Error>
     ensures tried { result ≡ endpoint_tried found.entry address kind direction is_used }
+    ensures small { IfOk result (λ maximum. maximum < 2 ^ 11) }
     ensures direction { OnOk result (direction_of_address address ≡ direction) }
 {
     let Some(endpoint) = found else {
@@ -118,6 +119,7 @@ impl Host {
             IsSome (value_at self.now.devices c.opened)) }
         ensures tried { ForSome (value_at self.now.interfaces interface.serial) (λ c.
             result ≡ host_tries self.now interface.serial c address kind direction) }
+        ensures small { IfOk result (λ maximum. maximum < 2 ^ 11) }
         ensures direction { OnOk result (direction_of_address address ≡ direction) }
     {
         let claim = self.ledger.interface(interface);
@@ -150,6 +152,7 @@ impl Host {
             Tried (maximum_tried result)
             (host_tries (host_asked self.old c.opened) interface.serial c address kind direction)) }
         ensures packets { IfOk result (λ route. 0 < route.maximum) }
+        ensures small { IfOk result (λ route. route.maximum < 2 ^ 11) }
         ensures direction { OnOk result (direction_of_address address ≡ direction) }
         ensures route { ForSome (value_at self.old.interfaces interface.serial) (λ c.
             IfOk result (λ route.

@@ -53,7 +53,7 @@ pub struct Host {
     pub(crate) kernel: Kernel,
     pub(crate) devices: Devices,
     pub(crate) ledger: Ledger,
-    steps: VecDeque<KernelStep>,
+    pub(crate) steps: VecDeque<KernelStep>,
 }
 
 impl Model for Host {

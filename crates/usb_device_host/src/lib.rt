@@ -9,6 +9,7 @@ mod controls;
 mod endpoints;
 mod host;
 mod opening;
+mod rooms;
 mod settings;
 mod slots;
 
