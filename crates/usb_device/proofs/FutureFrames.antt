@@ -14,6 +14,7 @@ use Rattle.usb_kernel.proofs.Extends.{extends-same, ticket-stays, completion-sta
 use Rattle.usb_device_endpoint.specs.BusState.{BusState, without_owner, without_key}
 use Rattle.usb_kernel.specs.TransferCompletions.{completion_of, transfer_completion}
 use Rattle.usb_device_endpoint.specs.Handles.{KeepsOthers}
+use Rattle.usb_device_endpoint.proofs.Frames.{keeps_others, others-same}
 use Rattle.usb_device_endpoint.specs.Waits.{is_reaped}
 use Rattle.usb_device_tables.proofs.SerialLemmas.{cases_Option}
 use Rattle.usb_xfer.specs.declared.transfer.TransferData.{TransferData}
@@ -84,12 +85,11 @@ went-future h f = awaited_by-went h f.deadline f.ticket
 module _ (h mid : HostState) (t key : ℕ) (bus : bus_of mid ≡ record (bus_of h) { owner = without_owner (owner_at h.tickets) t }) where
   others-ended : owner_at h.tickets t ≡ Some key → KeepsOthers (bus_of h) (bus_of (host_left mid key)) key
   others-ended held =
-      record {
-        tickets = λ u k other here.
-            ap (λ (b : BusState). b.owner u) (bus-left mid key) ∙ (ap (λ (b : BusState). b.owner u) bus ∙ (without-other u k (λ same. other (sym (same_Some key k (sym held ∙ (ap (owner_at h.tickets) same ∙ here))))) ∙ here));
-        keys = λ k other open_.
-            ap (λ (b : BusState). b.keys k) (bus-left mid key) ∙ (keys-other k (λ same. other (sym same)) ∙ (ap (λ (b : BusState). b.keys k) bus ∙ open_));
-      }
+      keeps_others (bus_of h) (bus_of (host_left mid key)) key
+      (λ u k other here.
+      ap (λ (b : BusState). b.owner u) (bus-left mid key) ∙ (ap (λ (b : BusState). b.owner u) bus ∙ (without-other u k (λ same. other (sym (same_Some key k (sym held ∙ (ap (owner_at h.tickets) same ∙ here))))) ∙ here)))
+      (λ k other open_.
+      ap (λ (b : BusState). b.keys k) (bus-left mid key) ∙ (keys-other k (λ same. other (sym same)) ∙ (ap (λ (b : BusState). b.keys k) bus ∙ open_)))
     where
       without-other : (u k : ℕ) → t ≢ u → without_owner (owner_at h.tickets) t u ≡ owner_at h.tickets u
       without-other u k apart = rw (ne_eqb t u apart) refl
@@ -112,7 +112,7 @@ stays-none : (h : HostState) → HandlesStay h h
 stays-none h = record { line = record { steps = refl; spare = refl; devices = refl }; interfaces = goes-refl h.interfaces; past = extends-same h.kernel.past }
 
 pub others-none : (b : BusState) (key : ℕ) → KeepsOthers b b key
-others-none b key = record { tickets = λ t k other held. held; keys = λ k other open_. open_ }
+others-none b key = others-same b b key refl refl
 
 taken_by-stays : (h : HostState) (key : ℕ) (o : Option ℕ) → HandlesStay h (taken_by h key o)
 taken_by-stays h key None = stays-none h

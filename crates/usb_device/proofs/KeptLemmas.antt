@@ -12,7 +12,7 @@ use Rattle.usb_xfer.specs.declared.transfer.TransferData.{TransferData}
 use Rattle.usb_device_endpoint.specs.BusState.{BusState}
 use Rattle.usb_device_endpoint.specs.EndpointState.{EndpointState}
 use Rattle.usb_device_endpoint.specs.Handles.{Stands, KeepsOthers}
-use Rattle.usb_device_endpoint.proofs.Frames.{Stands-other, Stands-later}
+use Rattle.usb_device_endpoint.proofs.Frames.{Stands-later, Stands-other, keeps_others, others-same}
 use Rattle.usb_device_tables.specs.History.{value_at}
 use Rattle.usb_device_tables.proofs.ValueLemmas.{value-set_same, value-set_other}
 use Rattle.usb_device_tables.proofs.SerialLemmas.{cases_Option}
@@ -211,7 +211,7 @@ stand-configured h key value = stand-found h (host_configured h key value) (devi
 reset_on-stand : (h : HostState) (o : Option OpenDevice) → KeepsHeld h (reset_on h o) → HandlesStand h (reset_on h o)
 reset_on-stand h None keeps = stand-none h
 reset_on-stand h (Some o) keeps =
-    stand-by h (reset_on h (Some o)) keeps (there-same h.devices h.devices refl) (claims-same h.interfaces h.interfaces refl) (λ key. record { tickets = λ t k other held. held; keys = λ k other open_. open_ }) (extends-reset h.kernel o.device)
+    stand-by h (reset_on h (Some o)) keeps (there-same h.devices h.devices refl) (claims-same h.interfaces h.interfaces refl) (λ key. others-same (bus_of h) (bus_of (reset_on h (Some o))) key refl refl) (extends-reset h.kernel o.device)
 
 pub stand-reset : (h : HostState) (key : ℕ) → HandlesStand h (host_reset h key)
 unfolding host_reset
@@ -258,7 +258,7 @@ stand-setting h i setting = setting-on h i setting (value_at h.interfaces i) ref
 with-stand : (h : HostState) (i address : ℕ) → HandlesStand h (with_endpoint h i address)
 with-stand h i address =
     let e : HostEndpoint = record { interface = Some i; address = address; is_open = true } in
-    stand-by h (with_endpoint h i address) (devices_stay_held.open_endpoint h i address) (there-same h.devices h.devices refl) (claims-same h.interfaces h.interfaces refl) (λ key. record { tickets = λ t k other held. held; keys = λ k other open_. key-kept h.endpoints e k open_ }) (extends-same h.kernel.past)
+    stand-by h (with_endpoint h i address) (devices_stay_held.open_endpoint h i address) (there-same h.devices h.devices refl) (claims-same h.interfaces h.interfaces refl) (λ key. keeps_others (bus_of h) (bus_of (with_endpoint h i address)) key (λ t k other held. held) (λ k other open_. key-kept h.endpoints e k open_)) (extends-same h.kernel.past)
 
 pub stand-endpoint : (h : HostState) (device i address : ℕ) → HandlesStand h (with_endpoint (host_asked h device) i address)
 stand-endpoint h device i address = let asked = host_asked h device in stand-trans h asked (with_endpoint asked i address) (stand-asked h device) (with-stand asked i address)

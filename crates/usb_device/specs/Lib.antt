@@ -9,3 +9,4 @@ pub mod OwnerLaws
 pub mod KeptHandles
 pub mod HeldLaws
 pub mod ClosedLaws
+pub mod OwnKeys

@@ -16,6 +16,7 @@ ghost use Rattle.usb_device_host.specs.OnDevices.{detach_tried, host_detached, a
 ghost use Rattle.usb_device_host.specs.OnInterfaces.{alt_setting_tried, alt_setting_set, current_setting, all_settings};
 ghost use Rattle.usb_device_host.specs.Opens.{host_opened, open_key};
 ghost use Rattle.usb_device_host.specs.CallErrors.{Leaves};
+ghost use Rattle.usb_device.specs.OwnKeys.{IsOwnDevice, IsOwnInterface, IsOwnEndpoint};
 ghost use Rattle.usb_error.specs.Outcomes.{Tried};
 ghost use Rattle.usb_device_tables.specs.History.{value_at};
 
@@ -95,6 +96,7 @@ impl Device {
         ensures tried { Tried result (open_key host.old bus address) }
         ensures host { Leaves result host.new (host_opened host.old bus address) host.old }
         ensures stands { IfOk result (StandsDevice host.new) }
+        ensures apart { IfOk result (IsOwnDevice host.old) }
         ensures handles { HandlesStand host.old host.new }
     {
         match host.open_device(bus, address) {
@@ -290,6 +292,7 @@ impl Device {
         requires stands { StandsDevice host.old self.now }
         ensures claims { ClaimsInterface host.old host.new self.now interface false result }
         ensures stands { IfOk result (StandsInterface host.new) }
+        ensures apart { IfOk result (IsOwnInterface host.old) }
         ensures device { StandsDevice host.new self.now }
         ensures handles { HandlesStand host.old host.new }
     {
@@ -314,6 +317,7 @@ impl Device {
         requires stands { StandsDevice host.old self.now }
         ensures claims { ClaimsInterface host.old host.new self.now interface true result }
         ensures stands { IfOk result (StandsInterface host.new) }
+        ensures apart { IfOk result (IsOwnInterface host.old) }
         ensures device { StandsDevice host.new self.now }
         ensures handles { HandlesStand host.old host.new }
     {
@@ -336,6 +340,7 @@ impl Device {
         requires stands { StandsDevice host.old self }
         ensures claims { ClaimsAndCloses host.old host.new self interface false result }
         ensures stands { IfOk result (StandsInterface host.new) }
+        ensures apart { IfOk result (IsOwnInterface host.old) }
         ensures handles { StandBesideDevice host.old host.new self }
     {
         let claimed = self.claim_interface(host, interface);
@@ -358,6 +363,7 @@ impl Device {
         requires stands { StandsDevice host.old self }
         ensures claims { ClaimsAndCloses host.old host.new self interface true result }
         ensures stands { IfOk result (StandsInterface host.new) }
+        ensures apart { IfOk result (IsOwnInterface host.old) }
         ensures handles { StandBesideDevice host.old host.new self }
     {
         let claimed = self.detach_and_claim_interface(host, interface);
@@ -503,6 +509,7 @@ impl Interface {
         ensures opens { OpensEndpoint host.old host.new self.now.key address T.TYPE D.DIR result }
         ensures direction { IfOk result (λ e. direction_of_address e.address ≡ D.DIR) }
         ensures stands { IfOk result (Stands (bus_of host.new)) }
+        ensures apart { IfOk result (IsOwnEndpoint host.old) }
         ensures others { IfOk result (λ e. KeepsOthers (bus_of host.old) (bus_of host.new) e.key) }
         ensures interface { StandsInterface host.new self.now }
         ensures handles { HandlesStand host.old host.new }
@@ -537,6 +544,7 @@ impl Interface {
         ensures opens { OpensAndCloses host.old host.new self.key address T.TYPE D.DIR result }
         ensures direction { IfOk result (λ e. direction_of_address e.address ≡ D.DIR) }
         ensures stands { IfOk result (Stands (bus_of host.new)) }
+        ensures apart { IfOk result (IsOwnEndpoint host.old) }
         ensures handles { StandBesideInterface host.old host.new self.key }
     {
         let opened = self.endpoint::<T, D>(host, address);

@@ -4,6 +4,7 @@ ghost use Rattle.std.specs.Prelude.{IfOk};
 ghost use Rattle.usb_device_host.specs.CallErrors.{Leaves};
 ghost use Rattle.usb_device_host.specs.HandleStates.{StandsDevice};
 ghost use Rattle.usb_device_host.specs.Opens.{host_opened, open_key};
+ghost use Rattle.usb_device.specs.KeptHandles.{HandlesStand};
 ghost use Rattle.usb_error.specs.Outcomes.{Tried};
 
 use crate::device::DeviceInfo;
@@ -19,6 +20,7 @@ impl DeviceInfo {
         ensures host { Leaves result host.new
             (host_opened host.old self.now.numbers.busnum self.now.numbers.address) host.old }
         ensures stands { IfOk result (StandsDevice host.new) }
+        ensures handles { HandlesStand host.old host.new }
     {
         Device::open_at(host, self.busnum(), self.device_address())
     }

@@ -4,6 +4,7 @@ use Rattle.usb_device_host.specs.InterfaceClaims.{host_claimed}
 use Rattle.usb_device_host.proofs.Left.{left}
 use Rattle.usb_device.specs.KeptHandles.{HandlesStand}
 use Rattle.usb_device.proofs.KeptLemmas.{stand-none, stand-claimed}
+use Rattle.usb_device.proofs.ForDrivers.{interface_apart}
 use Rattle.usb_device.proofs.device.Device.claim_interface.Goals as goal
 
 pub returns-in-Ok-clause-claims : goal.returns-in-Ok-clause-claims
@@ -54,3 +55,6 @@ pub returns-in-Err-clause-handles : goal.returns-in-Err-clause-handles
 returns-in-Err-clause-handles c =
     let host = c.args.host.now in
     left {A = ℕ} (HandlesStand host) (Err c.in-Err.error) c.claim.new.self (host_claimed host c.self.inside.key.serial c.args.interface false) host c.in-Err.ensures.host (stand-claimed host c.self.inside.key.serial c.args.interface false) (stand-none host)
+
+pub returns-in-Ok-clause-apart : goal.returns-in-Ok-clause-apart
+returns-in-Ok-clause-apart c = λ i stands. interface_apart c.args.host.now c.claim.new.self c.args.self.now c.args.interface false _ i (returns-in-Ok-clause-claims c) stands

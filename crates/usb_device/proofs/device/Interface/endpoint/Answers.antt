@@ -7,6 +7,7 @@ use Rattle.usb_device_host.specs.EndpointOpens.{host_asked, with_endpoint}
 use Rattle.usb_device_host.proofs.EndpointLemmas.{endpoint-stands, endpoint-others}
 use Rattle.usb_device.proofs.StandLemmas.{endpoint-interface, asked-interface}
 use Rattle.usb_device.proofs.KeptLemmas.{stand-asked, stand-endpoint}
+use Rattle.usb_device.proofs.ForDrivers.{endpoint_apart}
 use Rattle.usb_device.proofs.device.Interface.endpoint.Goals as goal
 
 pub returns-in-Ok-clause-opens : goal.returns-in-Ok-clause-opens
@@ -85,3 +86,6 @@ returns-in-Err-clause-handles g c =
     let stands = c.requires.stands in
     let at : value_at host.interfaces c.self.inside.key.serial ≡ Some stands.claim = ap (λ (i : InterfaceState). value_at host.interfaces i.key) c.self.view_is ∙ stands.at in
     rw (c.in-Err.ensures.err stands.claim at) (stand-asked host stands.claim.opened)
+
+pub returns-in-Ok-clause-apart : goal.returns-in-Ok-clause-apart
+returns-in-Ok-clause-apart g c = λ e stands. endpoint_apart c.args.host.now c.open_endpoint.new.self c.args.self.now.key c.args.address _ _ c.new.result e (returns-in-Ok-clause-opens g c) stands
