@@ -22,23 +22,21 @@ use usb_kernel_devices::{Bytes, Descriptors, KernelCall, KernelStep, SimDevice};
 /// The methods take the bench and give it back with what they add, so that they stand in a row. Each
 /// `?` is for want of memory, where the bench is dropped.
 ///
-/// ```text
-/// // a boot keyboard: two reports come, and then it is unplugged
-/// let bench = SimBench::new(alloc, &KEYBOARD)?
-///     .speed(Speed::Low)
-///     .driver(0)?
-///     .packet(0x81, &[0, 0, 4, 0, 0, 0, 0, 0])?
-///     .packet(0x81, &[0, 0, 0, 0, 0, 0, 0, 0])?
-///     .unplug()?;
+/// ```
+/// let bench = SimBench::new(rt.alloc(), &DEVICE)?
+///     .accept(0x02)?
+///     .packet(0x81, &[1, 2, 3])?;
 /// let mut host = bench.host()?;
-/// let device = Device::open_at(&mut host, 1, 6)?;
+/// let mut echo = Echo::open(&mut host, 1, 6)?;
+/// let answer = echo.exchange(&mut host, &[1, 2, 3]);
+/// echo.close(&mut host);
 /// ```
 ///
 /// The steps come one at a time, while the driver waits: a wait takes the next step, looks whether
 /// its transfer is there, and goes on. A packet that comes while no transfer of its endpoint is
 /// pending is lost, as on a wire. So a wait has to end before the packet of the next one comes. That
 /// is what a reap is for, at which a finished transfer is handed to its endpoint: `packet`, `accept`,
-/// `echo`, `stall`, `fail` and `unplug` each put one behind their step, or two. A driver that submits
+/// `echo`, `stall`, `fail`, `until` and `unplug` each put one behind their step, or two. A driver that submits
 /// many transfers before it waits loses nothing by it: where no transfer is finished a reap does
 /// nothing.
 ///
@@ -192,11 +190,21 @@ impl SimBench {
     }
 
     /// The clock is set to a time in nanoseconds, where that is later. It begins at 0. Transfers with a
-    /// deadline are cancelled by `KernelStep::Timer` alone.
+    /// deadline are cancelled by `until` or `KernelStep::Timer` alone.
     pub fn clock(self, to: u64) -> Result<SimBench, NoMemory>
         ensures steps { IfOk result (λ b. b ≡ with_step self (KernelStep.Clock to)) }
     {
         self.step(KernelStep::Clock { to })
+    }
+
+    /// Time goes by until then: the clock goes to a time in nanoseconds, where that is later, and the
+    /// timer has its turn, which cancels each transfer of which the deadline is up. A reap comes behind
+    /// it, for the one that was submitted first.
+    pub fn until(self, time: u64) -> Result<SimBench, NoMemory>
+        ensures steps { IfOk result (λ b.
+            b ≡ with_reaped_step (with_step self (KernelStep.Clock time)) KernelStep.Timer) }
+    {
+        self.clock(time)?.step_and_reap(KernelStep::Timer)
     }
 
     /// A step comes next, and behind it one that reaps.
