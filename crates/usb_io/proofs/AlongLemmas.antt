@@ -6,6 +6,7 @@ use Rattle.usb_device_endpoint.specs.declared.route.Route.{Route}
 use Rattle.usb_device_endpoint.specs.BusState.{BusState}
 use Rattle.usb_device_endpoint.specs.EndpointState.{EndpointState}
 use Rattle.usb_device_endpoint.specs.Handles.{Stands, KeepsOthers}
+use Rattle.usb_device_endpoint.proofs.Frames.{others-same}
 use Rattle.usb_device_endpoint.specs.Submits.{Enters}
 use Rattle.usb_device_endpoint.proofs.HandleLemmas.{others_in_turn}
 use Rattle.usb_io.specs.Along.{KeepsAlong, WentOn, WritesAlong}
@@ -13,7 +14,7 @@ use Rattle.usb_io.specs.Along.{KeepsAlong, WentOn, WritesAlong}
 -- where nothing was done all is kept
 pub keeps-same : {On : Type 0} (b : BusState) (e : EndpointState) → Stands b e → On → KeepsAlong On b b e e
 keeps-same b e stands on =
-    record { goes_on = on; stands = stands; others = record { tickets = λ t k other is. is; keys = λ k other is. is }; endpoint = refl; few = omega arith }
+    record { goes_on = on; stands = stands; others = others-same b b e.key refl refl; endpoint = refl; few = omega arith }
 
 -- a bound on what is pending holds over two calls
 keeps-few : (a b c : ℕ) → b ≤ max a 64 → c ≤ max b 64 → c ≤ max a 64

@@ -1,8 +1,8 @@
 //! Readers and writers made of endpoints.
 
-ghost use Rattle.std.specs.Prelude.{◌≡◌, ◌<◌, ◌^◌};
+ghost use Rattle.std.specs.Prelude.{◌≡◌};
 ghost use Rattle.usb_device_endpoint.specs.EndpointState.{EndpointState};
-ghost use Rattle.usb_io.specs.Readers.{rounded, fresh_reader};
+ghost use Rattle.usb_io.specs.Readers.{fresh_reader, FitsRounded};
 ghost use Rattle.usb_io.specs.Writers.{fresh_writer};
 
 use crate::reader::EndpointRead;
@@ -17,7 +17,7 @@ pub trait IntoReader<T: BulkOrInterrupt> {
 
     /// A reader, as `EndpointRead::new` makes it.
     fn reader(self, transfer_size: usize) -> EndpointRead<T>
-        requires small { rounded (input self).maximum transfer_size < 2 ^ 31 }
+        requires fits { FitsRounded (input self).maximum transfer_size }
         ensures fresh { result ≡ fresh_reader (input self) transfer_size };
 }
 
@@ -36,7 +36,7 @@ pub trait IntoWriter<T: BulkOrInterrupt> {
 
     /// A writer, as `EndpointWrite::new` makes it.
     fn writer(self, transfer_size: usize) -> EndpointWrite<T>
-        requires small { rounded (output self).maximum transfer_size < 2 ^ 31 }
+        requires fits { FitsRounded (output self).maximum transfer_size }
         ensures fresh { result ≡ fresh_writer (output self) transfer_size };
 }
 

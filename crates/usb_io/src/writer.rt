@@ -3,7 +3,7 @@
 ghost use Rattle.std.specs.Prelude.{◌≡◌, ◌<◌, ◌≤◌, ◌^◌, length};
 ghost use Rattle.usb_device_endpoint.specs.Handles.{Stands, KeepsOthers};
 ghost use Rattle.usb_device_endpoint.specs.Closes.{after_close};
-ghost use Rattle.usb_io.specs.Readers.{rounded};
+ghost use Rattle.usb_io.specs.Readers.{FitsRounded};
 ghost use Rattle.usb_io.specs.Writers.{fresh_writer, standing_count};
 
 use crate::reader::round_up;
@@ -51,7 +51,7 @@ impl<T: BulkOrInterrupt> EndpointWrite<T> {
     /// A writer that keeps one transfer pending, of a size that is rounded up to whole packets. Its
     /// waits have no end in time.
     pub fn new(endpoint: Endpoint<T, Out>, transfer_size: usize) -> Self
-        requires small { rounded endpoint.maximum transfer_size < 2 ^ 31 }
+        requires fits { FitsRounded endpoint.maximum transfer_size }
         ensures fresh { result ≡ fresh_writer endpoint transfer_size }
     {
         let size = round_up(transfer_size, endpoint.max_packet_size());
@@ -118,6 +118,7 @@ impl<T: BulkOrInterrupt> EndpointWrite<T> {
     pub fn max_packet_size(&self) -> usize
         ensures maximum { result ≡ self.now.endpoint.maximum }
         ensures packets { 0 < result }
+        ensures small { result < 2 ^ 11 }
     {
         self.endpoint.max_packet_size()
     }
