@@ -12,10 +12,10 @@ use Rattle.usb_device_endpoint.specs.EndpointState.{EndpointState}
 use Rattle.usb_io.specs.Following.{Follows, FollowsOn, FollowsRead}
 use Rattle.usb_io.specs.Carried.{Tells, TellsOn}
 use Rattle.usb_io.specs.Writes.{Call, Accept, Flush, Finish}
-use Rattle.std.specs.Prelude.{◌==◌, nat_lt, Bool, false, Result, Ok, Err, IfOk, IfErr, OnErr}
+use Rattle.std.specs.Prelude.{nat_lt, Bool, false, Result, Ok, Err, IfOk, IfErr, OnErr}
 use Rattle.usb_kernel.proofs.Extends.{extends-same}
 use Rattle.usb_io.specs.Answered.{Answered, answered}
-use Rattle.usb_msg.specs.Frames.{framed, tag_in, body_in}
+use Rattle.usb_msg.specs.Frames.{framed, tag_in, body_in, has_tag}
 use Rattle.usb_msg.specs.Errors.{error_of}
 use Rattle.usb_msg.specs.Responses.{by_tag, by_length, message_taken, without_message}
 use Rattle.usb_msg.specs.declared.error.Ending.TheVariants as ending
@@ -150,7 +150,7 @@ by-tag-ok false message c c' body is = absurd (let same : Err (error_of (ending.
 
 by-length-ok : (b : Bool) (message : List ℕ) (c c' : ClientState) (body : List ℕ) → by_length b message c ≡ answered (Ok body) c' → c' ≡ record c { responses = c.responses + 1 }
 by-length-ok true message c c' body is = absurd (let same : Err (error_of (ending.Short (length message))) ≡ Ok body = ap (λ (a : Answered (List ℕ) MsgError ClientState). a.answer) is in cc)
-by-length-ok false message c c' body is = by-tag-ok (tag_in message == c.responses) message c c' body is
+by-length-ok false message c c' body is = by-tag-ok (has_tag c.responses message) message c c' body is
 
 by-tag-err : (b : Bool) (message : List ℕ) (c c' : ClientState) (e : MsgError) → by_tag b message c ≡ answered (Err e) c' → (why : Ending) × (c' ≡ record c { ended = Some why })
 by-tag-err true message c c' e is = absurd (let same : Ok (body_in message) ≡ Err e = ap (λ (a : Answered (List ℕ) MsgError ClientState). a.answer) is in cc)
@@ -158,7 +158,7 @@ by-tag-err false message c c' e is = (ending.WrongTag c.responses (tag_in messag
 
 by-length-err : (b : Bool) (message : List ℕ) (c c' : ClientState) (e : MsgError) → by_length b message c ≡ answered (Err e) c' → (why : Ending) × (c' ≡ record c { ended = Some why })
 by-length-err true message c c' e is = (ending.Short (length message), sym (ap (λ (a : Answered (List ℕ) MsgError ClientState). a.left) is))
-by-length-err false message c c' e is = by-tag-err (tag_in message == c.responses) message c c' e is
+by-length-err false message c c' e is = by-tag-err (has_tag c.responses message) message c c' e is
 
 -- what comes of the message that came, behind its reads
 module _ (x y : List Event) (a c c' : ClientState) (goes : c.ended ≡ None) (end : is_end c.reader ≡ true) (so_far : Quiet x y a c) where

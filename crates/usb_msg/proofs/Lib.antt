@@ -8,3 +8,4 @@ pub mod RequestLemmas
 pub mod Worked
 pub mod Standing
 pub mod Living
+pub mod Responding

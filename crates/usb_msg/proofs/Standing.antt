@@ -3,7 +3,6 @@ use Rattle.std.proofs.Common.{◌≡◌, ◌∙◌, ap, sym, subst}
 use Rattle.usb_device_endpoint.specs.BusState.{BusState}
 use Rattle.usb_device_endpoint.specs.EndpointState.{EndpointState}
 use Rattle.usb_device_endpoint.specs.Handles.{Stands}
-use Rattle.usb_device_endpoint.proofs.Frames.{Stands-other}
 use Rattle.usb_io.specs.Along.{ReadsAlong, WritesAlong}
 use Rattle.usb_io.specs.Readers.{ReaderState}
 use Rattle.usb_io.specs.Writers.{WriterState}
@@ -12,7 +11,7 @@ use Rattle.usb_msg.specs.Clients.{ClientState, StandBoth}
 pub both-written : (old new : BusState) (c c' : ClientState) → WritesAlong old new c.writer.endpoint c'.writer.endpoint → c'.reader ≡ c.reader → StandBoth old c → StandBoth new c'
 both-written old new c c' along same both =
     let key = ap (λ (e : EndpointState). e.key) along.endpoint in
-    let inp = Stands-other old new c.writer.endpoint.key c.reader.endpoint along.others (λ is. both.apart (sym is)) both.inp in
+    let inp = along.others.stand c.reader.endpoint (λ is. both.apart (sym is)) both.inp in
     record {
       out = along.stands;
       inp = subst (λ (r : ReaderState). Stands new r.endpoint) (sym same) inp;
@@ -22,7 +21,7 @@ both-written old new c c' along same both =
 pub both-read : (old new : BusState) (c c' : ClientState) → ReadsAlong old new c.reader.endpoint c'.reader.endpoint → c'.writer ≡ c.writer → StandBoth old c → StandBoth new c'
 both-read old new c c' along same both =
     let key = ap (λ (e : EndpointState). e.key) along.endpoint in
-    let out = Stands-other old new c.reader.endpoint.key c.writer.endpoint along.others both.apart both.out in
+    let out = along.others.stand c.writer.endpoint both.apart both.out in
     record {
       out = subst (λ (w : WriterState). Stands new w.endpoint) (sym same) out;
       inp = along.stands;

@@ -1,6 +1,7 @@
 -- The frames of requests and responses: a tag of four bytes, and a body of at most 4096.
-use Rattle.std.specs.Prelude.{ℕ, ◌+◌, List, [], ◌∷◌, ◌++◌, map, take, drop}
+use Rattle.std.specs.Prelude.{ℕ, ◌+◌, Bool, List, [], ◌∷◌, ◌++◌, map, take, drop}
 use Rattle.std.specs.Int.{w32, to_le_bytes, from_le_bytes}
+use Rattle.std.specs.Str.{bytes_eq}
 use Rattle.usb_io.specs.Streams.{Mark, Byte, End}
 
 -- a frame: the bytes of its tag, the lowest first, and its body
@@ -13,6 +14,10 @@ tag_in message = from_le_bytes w32 (take 4 message)
 
 abbrev pub body_in : List ℕ → List ℕ
 body_in message = drop 4 message
+
+-- whether this is its tag: the message begins with the tag's four bytes
+abbrev pub has_tag : ℕ → List ℕ → Bool
+has_tag tag message = bytes_eq (take 4 message) (to_le_bytes w32 tag)
 
 -- the frames of bodies, with the tags from this one on
 abbrev pub frames_from : ℕ → List (List ℕ) → List (List ℕ)

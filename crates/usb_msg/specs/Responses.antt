@@ -1,5 +1,5 @@
 -- What a response came to, and what it left of the bus and the client.
-use Rattle.std.specs.Prelude.{ℕ, zero, suc, ◌+◌, ◌-◌, ◌≤◌, ◌≡◌, ◌≢◌, ◌⊎◌, Bool, true, false, List, [], ◌∷◌, ◌++◌, length, Option, Some, None, Result, Ok, Err, ◌==◌, nat_lt}
+use Rattle.std.specs.Prelude.{ℕ, zero, suc, ◌+◌, ◌-◌, ◌≤◌, ◌≡◌, ◌≢◌, ◌⊎◌, Bool, true, false, List, [], ◌∷◌, ◌++◌, length, Option, Some, None, Result, Ok, Err, nat_lt}
 use Rattle.usb_device_endpoint.specs.BusCalls.{BusCalls}
 use Rattle.usb_io.specs.Answered.{Answered, answered, FailsBy, FailedAs}
 use Rattle.usb_io.specs.Readers.{is_end, without_end}
@@ -9,7 +9,7 @@ use Rattle.usb_io.specs.StreamFaults.{read_fault}
 use Rattle.usb_io.specs.declared.fault.ReadFault.{ReadFault}
 use Rattle.usb_io.specs.declared.fault.ReadFault.TheVariants.{UnexpectedEof}
 use Rattle.usb_desc.specs.declared.error.Fail.{Fail}
-use Rattle.usb_msg.specs.Frames.{tag_in, body_in}
+use Rattle.usb_msg.specs.Frames.{tag_in, body_in, has_tag}
 use Rattle.usb_msg.specs.Clients.{ClientState}
 use Rattle.usb_msg.specs.Errors.{error_of, ended_by_read}
 use Rattle.usb_msg.specs.Requests.{Messaging, messaging, Message, ended_by, Unchanged}
@@ -80,7 +80,7 @@ by_tag false message c = ended_with (ending.WrongTag c.responses (tag_in message
 
 abbrev pub by_length : Bool → List ℕ → ClientState → Answered (List ℕ) MsgError ClientState
 by_length true message c = ended_with (ending.Short (length message)) c
-by_length false message c = by_tag (tag_in message == c.responses) message c
+by_length false message c = by_tag (has_tag c.responses message) message c
 
 abbrev pub message_taken : ClientState → Answered (List ℕ) MsgError ClientState
 message_taken c = by_length (nat_lt (length c.frame) 4) c.frame (without_message c)

@@ -2,7 +2,6 @@
 
 ghost use Rattle.std.specs.Prelude.{◌≡◌, ◌-◌, ◌<◌, ◌^◌, [], IfOk, IfErr};
 ghost use Rattle.usb_device_endpoint.specs.Closes.{after_close};
-ghost use Rattle.usb_io.specs.Readers.{rounded};
 ghost use Rattle.usb_msg.specs.Clients.{fresh_client, StandBoth};
 
 use crate::error::Ending;
@@ -25,10 +24,16 @@ const READ_SIZE: usize = 512;
 /// It is never dropped: `close` spends it.
 ///
 /// ```
-/// let Ok(mut client) = MsgClient::new(out, inp) else { .. };
-/// let tag = client.request(host, &[1, 2, 3]);
-/// let body = client.response(host);
-/// client.close(host);
+/// match MsgClient::new(out, inp) {
+///     Ok(mut client) => {
+///         let tag = client.request(host, &[1, 2, 3]);
+///         client.close(host);
+///     }
+///     Err((out, inp)) => {
+///         out.close(host);
+///         inp.close(host);
+///     }
+/// }
 /// ```
 pub struct MsgClient<O: BulkOrInterrupt, I: BulkOrInterrupt> {
     pub(crate) writer: EndpointWrite<O>,
@@ -73,8 +78,6 @@ impl<O: BulkOrInterrupt, I: BulkOrInterrupt> MsgClient<O, I> {
     ) -> Result<Self, (Endpoint<O, Out>, Endpoint<I, In>)>
         requires out_idle { out.pending ≡ [] }
         requires in_idle { inp.pending ≡ [] }
-        requires out_small { rounded out.maximum 4160 < 2 ^ 31 }
-        requires in_small { rounded inp.maximum 512 < 2 ^ 31 }
         ensures fresh { IfOk result (λ c. c ≡ fresh_client out inp) }
         ensures back { IfErr result (λ back. (back.0 ≡ out) × (back.1 ≡ inp)) }
     {
@@ -97,6 +100,13 @@ impl<O: BulkOrInterrupt, I: BulkOrInterrupt> MsgClient<O, I> {
     /// What takes memory, takes it from here.
     pub(crate) fn allocator(&self) -> Global {
         *self.frame.allocator()
+    }
+
+    /// How many requests were accepted.
+    pub fn requests(&self) -> u32
+        ensures count { result ≡ self.now.requests }
+    {
+        self.requests
     }
 
     /// How many requests were accepted whose responses are to come.

@@ -14,5 +14,5 @@ mod sending;
 mod tests;
 
 pub use client::MsgClient;
-pub use error::MsgError;
+pub use error::{Ending, MsgError};
 pub use laws::responses_are_messages;

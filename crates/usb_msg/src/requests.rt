@@ -18,6 +18,20 @@ use usb_device_endpoint::Bus;
 use usb_xfer::BulkOrInterrupt;
 
 impl<O: BulkOrInterrupt, I: BulkOrInterrupt> MsgClient<O, I> {
+    /// How many transfers a request with this body may need: two where its frame is whole packets,
+    /// else one.
+    pub fn request_need(&self, body: &[u8]) -> usize
+        ensures need { result
+            ≡ request_need self.now.writer.endpoint.maximum (4 + length body.now) }
+        ensures few { result ≤ 2 }
+    {
+        if (4 + body.len()) % self.writer.max_packet_size() == 0 {
+            2
+        } else {
+            1
+        }
+    }
+
     /// Sends a request with this body, at most 4096 bytes, and answers its tag. Its response is that
     /// of the same number, counted from 0.
     ///
