@@ -7,7 +7,7 @@ use Rattle.usb_script_words.specs.declared.framing.Framing.TheVariants.{Plain, U
 use Rattle.usb_script_words.specs.Words.{◌>>=◌, number_of}
 use Rattle.usb_script_words.specs.Controls.{control_bytes_of, string_index_of}
 use Rattle.usb_script_words.specs.Fields.{Word, none, one, two, three, four, six}
-use Rattle.usb_script_words.specs.FieldForms.{k, d, i, e, r, w, f, N, B, R, T, HH, HHHH, TIME, ERRNO, BYTES, PATH, NAME, TEXT, VALUE, KIND, SEL}
+use Rattle.usb_script_words.specs.FieldForms.{k, d, i, e, r, w, m, f, N, B, R, T, HH, HHHH, TIME, ERRNO, BYTES, PATH, NAME, TEXT, VALUE, KIND, SEL}
 use Rattle.usb_script_words.specs.Tables.{◌or◌, Table, read_by}
 use Rattle.usb_script_words.specs.KernelSteps.{steps_of}
 use Rattle.usb_script_lines.specs.Shapes.{one_and_rest, one_with_steps, two_with_steps, three_with_steps, four_with_steps, five_with_steps, control_with_steps, started_control}
@@ -50,7 +50,7 @@ forms =
     ∷ (codes "release", one item.Release i)
     -- further names, and closes
     ∷ (codes "clone", two item.CloneDevice d d or two item.CloneInterface i i)
-    ∷ (codes "close", one item.CloseDevice d or one item.CloseInterface i or one item.CloseEndpoint e or one item.CloseReader r or one item.CloseWriter w or one item.CloseFuture f)
+    ∷ (codes "close", one item.CloseDevice d or one item.CloseInterface i or one item.CloseEndpoint e or one item.CloseReader r or one item.CloseWriter w or one item.CloseClient m or one item.CloseFuture f)
     -- endpoints
     ∷ (codes "endpoint", four item.Endpoint e i HH KIND)
     ∷ (codes "submitin", two item.SubmitIn e N)
@@ -91,6 +91,11 @@ forms =
     ∷ (codes "flushend", one_with_steps item.FlushEnd w)
     ∷ (codes "pollflush", one item.PollFlush w)
     ∷ (codes "pollflushend", one item.PollFlushEnd w)
+    -- clients of messages
+    ∷ (codes "msg", three item.Client m e e)
+    ∷ (codes "mreq", two_with_steps item.Request m BYTES)
+    ∷ (codes "mresp", one_with_steps item.Response m)
+    ∷ (codes "mcount", one item.Outstanding m)
     -- control transfers, of at most 65535 bytes: X CTL stand before the bytes, or how many are wanted
     ∷ (codes "ctlin", control_with_steps item.ControlIn (number_of 65535) TIME)
     ∷ (codes "ctlout", control_with_steps item.ControlOut control_bytes_of TIME)

@@ -3,7 +3,7 @@ use Rattle.std.specs.Prelude.{ℕ, Bool, true, false, not, ◌&&◌, List, [], l
 use Rattle.std.specs.List.{sum_by}
 use Rattle.usb_kernel_devices.specs.declared.step.KernelStep.{KernelStep}
 use Rattle.usb_script_lines.specs.declared.item.Item.{Item}
-use Rattle.usb_script_lines.specs.declared.item.Item.TheVariants.{Device, Driver, Attribute, Denied, Child, Link, Entry, Root, Uevent, Reset, Wait, TransferIn, TransferOut, Read, FillBuf, Write, Flush, FlushEnd, ControlIn, ControlOut, WaitFuture, GetDescriptor, SupportedLanguages, StringDescriptor, Steps}
+use Rattle.usb_script_lines.specs.declared.item.Item.TheVariants.{Device, Driver, Attribute, Denied, Child, Link, Entry, Root, Uevent, Reset, Wait, TransferIn, TransferOut, Read, FillBuf, Write, Flush, FlushEnd, Request, Response, ControlIn, ControlOut, WaitFuture, GetDescriptor, SupportedLanguages, StringDescriptor, Steps}
 use Rattle.usb_script_lines.specs.declared.reading.Reading.{Reading}
 use Rattle.usb_script_lines.specs.declared.reading.Reading.TheVariants as reading
 
@@ -39,6 +39,8 @@ steps_in (FillBuf framing reader steps) = steps
 steps_in (Write writer bytes steps) = steps
 steps_in (Flush writer steps) = steps
 steps_in (FlushEnd writer steps) = steps
+steps_in (Request client body steps) = steps
+steps_in (Response client steps) = steps
 steps_in (ControlIn target setup wanted timeout steps) = steps
 steps_in (ControlOut target setup bytes timeout steps) = steps
 steps_in (WaitFuture future steps) = steps

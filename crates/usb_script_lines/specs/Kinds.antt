@@ -1,7 +1,7 @@
--- Which lines are calls on what is open or on the tree, and which of these are control transfers, or on interfaces, endpoints, readers and writers.
+-- Which lines are calls on what is open or on the tree, and which of these are control transfers, or on interfaces, endpoints, readers, writers and clients of messages.
 use Rattle.std.specs.Prelude.{Bool, true, false}
 use Rattle.usb_script_lines.specs.declared.item.Item.{Item}
-use Rattle.usb_script_lines.specs.declared.item.Item.TheVariants.{Device, Driver, Attribute, Denied, Child, Link, Entry, Root, Uevent, List, Buses, Probe, Match, Hotplug, OpenPath, Now, CloneInterface, CloseInterface, SetAltSetting, GetAltSetting, InterfaceDescriptor, Release, Endpoint, SubmitIn, SubmitOut, SubmitInWithDeadline, SubmitOutWithDeadline, Pending, Poll, Wait, TransferIn, TransferOut, Cancel, ClearHalt, CloseEndpoint, Reader, IntoInner, SetNumTransfers, SetReadTimeout, CancelReader, ClearReaderHalt, CloseReader, Read, PollRead, FillBuf, PollFillBuf, Consume, IsEnd, ConsumeEnd, Writer, WriterIntoInner, SetWriterTransfers, SetWriteTimeout, CloseWriter, Write, PollWrite, Submit, SubmitEnd, Flush, PollFlush, FlushEnd, PollFlushEnd, ControlIn, ControlOut, GetDescriptor, SupportedLanguages, StringDescriptor, StartControlIn, StartControlOut, PollFuture, WaitFuture, CloseFuture, Steps}
+use Rattle.usb_script_lines.specs.declared.item.Item.TheVariants.{Device, Driver, Attribute, Denied, Child, Link, Entry, Root, Uevent, List, Buses, Probe, Match, Hotplug, OpenPath, Now, CloneInterface, CloseInterface, SetAltSetting, GetAltSetting, InterfaceDescriptor, Release, Endpoint, SubmitIn, SubmitOut, SubmitInWithDeadline, SubmitOutWithDeadline, Pending, Poll, Wait, TransferIn, TransferOut, Cancel, ClearHalt, CloseEndpoint, Reader, IntoInner, SetNumTransfers, SetReadTimeout, CancelReader, ClearReaderHalt, CloseReader, Read, PollRead, FillBuf, PollFillBuf, Consume, IsEnd, ConsumeEnd, Writer, WriterIntoInner, SetWriterTransfers, SetWriteTimeout, CloseWriter, Write, PollWrite, Submit, SubmitEnd, Flush, PollFlush, FlushEnd, PollFlushEnd, Client, Request, Response, Outstanding, CloseClient, ControlIn, ControlOut, GetDescriptor, SupportedLanguages, StringDescriptor, StartControlIn, StartControlOut, PollFuture, WaitFuture, CloseFuture, Steps}
 
 -- those on an endpoint: they hand a transfer in, ask for one, wait, cancel, clear its halt or close
 abbrev pub is_of_endpoint : Item → Bool
@@ -62,6 +62,15 @@ is_of_writer (FlushEnd w steps) = true
 is_of_writer (PollFlushEnd w) = true
 is_of_writer item = sets_writer item
 
+-- those on a client of messages, or by which one is made of two endpoints
+abbrev pub is_of_client : Item → Bool
+is_of_client (Client m out inp) = true
+is_of_client (Request m body steps) = true
+is_of_client (Response m steps) = true
+is_of_client (Outstanding m) = true
+is_of_client (CloseClient m) = true
+is_of_client item = false
+
 -- those by which a device is asked for a descriptor
 abbrev pub asks_descriptor : Item → Bool
 asks_descriptor (GetDescriptor d kind index language timeout steps) = true
@@ -113,7 +122,7 @@ is_of_tree Hotplug = true
 is_of_tree (OpenPath d path) = true
 is_of_tree item = false
 
--- those on a device (`open` too), on an interface or on an endpoint, but for control transfers, readers and writers
+-- those on a device (`open` too), on an interface or on an endpoint, but for control transfers, readers, writers and clients of messages
 abbrev pub is_of_handle : Item → Bool
 is_of_handle (Device k bus address speed configuration descriptors) = false
 is_of_handle (Driver k number) = false
@@ -167,6 +176,11 @@ is_of_handle (Flush w steps) = false
 is_of_handle (PollFlush w) = false
 is_of_handle (FlushEnd w steps) = false
 is_of_handle (PollFlushEnd w) = false
+is_of_handle (Client m out inp) = false
+is_of_handle (Request m body steps) = false
+is_of_handle (Response m steps) = false
+is_of_handle (Outstanding m) = false
+is_of_handle (CloseClient m) = false
 is_of_handle Now = false
 is_of_handle (Steps steps) = false
 is_of_handle item = true

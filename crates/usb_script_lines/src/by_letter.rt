@@ -14,7 +14,8 @@ use crate::control_forms::{
 use crate::form::{exactly, field, form, letter, rows};
 use crate::item::Item;
 use crate::other_forms::{
-    device_line, dsubmitin_line, dsubmitout_line, open_line, write_line, xferout_line,
+    device_line, dsubmitin_line, dsubmitout_line, mreq_line, msg_line, open_line, write_line,
+    xferout_line,
 };
 use crate::several_forms::{
     cancel_line, clone_line, close_line, halt_line, inner_line, num_line, timeout_line,
@@ -155,6 +156,10 @@ fn line_lm(alloc: Global, name: &[u8], words: &[&[u8]]) -> Result<Item, LineErro
         b"link" => link_line(alloc, words)
         b"list" => List {}
         b"match" => match_line(alloc, words)
+        b"mcount" => Outstanding { client: m }
+        b"mreq" => mreq_line(alloc, words)
+        b"mresp" => Response { client: m; steps }
+        b"msg" => msg_line(words)
     }
 }
 

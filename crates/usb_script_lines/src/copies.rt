@@ -2,7 +2,7 @@
 
 ghost use Rattle.std.specs.Prelude.{◌≡◌, IfOk, IsTrue};
 ghost use Rattle.usb_script_lines.specs.ItemKinds.{is_setup};
-ghost use Rattle.usb_script_lines.specs.Kinds.{is_of_endpoint, is_of_interface, is_of_handle, is_of_reader, sets_reader, is_of_writer, sets_writer, is_of_control, asks_descriptor, is_of_tree};
+ghost use Rattle.usb_script_lines.specs.Kinds.{is_of_endpoint, is_of_interface, is_of_handle, is_of_reader, sets_reader, is_of_writer, sets_writer, is_of_client, is_of_control, asks_descriptor, is_of_tree};
 
 use crate::item::Item;
 use std::alloc::AllocError;
@@ -75,6 +75,7 @@ impl Item {
             Writer WriterIntoInner SetWriterTransfers SetWriteTimeout CloseWriter
             Write PollWrite Submit SubmitEnd Flush PollFlush FlushEnd PollFlushEnd
             => copied_writer_call;
+            Client Request Response Outstanding CloseClient => copied_client_call;
             | Item::Now => Ok(Item::Now),
             | Item::Steps(steps) => Ok(Item::Steps(steps.clone()?)),
         }
@@ -251,6 +252,22 @@ impl Item {
             SetWriterTransfers { writer, count }
             SetWriteTimeout { writer, timeout }
             CloseWriter { writer }
+            _ => unreachable!()
+        }
+    }
+
+    /// The same call on a client of messages once more.
+    fn copied_client_call(&self) -> Result<Item, NoMemory>
+        requires kind { IsTrue (is_of_client self.now) }
+        ensures same { IfOk result (λ copy. copy ≡ self.now) }
+    {
+        copy! {
+            self;
+            Client { client, out, inp }
+            Request { client; body, steps }
+            Response { client; steps }
+            Outstanding { client }
+            CloseClient { client }
             _ => unreachable!()
         }
     }

@@ -9,6 +9,7 @@ macro_rules! letter {
     (e) => { b'e' };
     (r) => { b'r' };
     (w) => { b'w' };
+    (m) => { b'm' };
     (f) => { b'f' };
 }
 

@@ -409,6 +409,35 @@ pub enum Item {
     PollFlushEnd {
         writer: Name,
     },
+    /// `msg m e e`: makes a client of messages of an OUT and of an IN endpoint.
+    Client {
+        client: Name,
+        /// The endpoint of its requests.
+        out: Name,
+        /// The endpoint of its responses.
+        inp: Name,
+    },
+    /// `mreq m BYTES : STEP ; ..`: sends a request with this body, and waits where it has to.
+    Request {
+        client: Name,
+        body: Data,
+        /// What happens while it waits.
+        steps: Steps,
+    },
+    /// `mresp m : STEP ; ..`: takes the next response, and waits where it is not there.
+    Response {
+        client: Name,
+        /// What happens while it waits.
+        steps: Steps,
+    },
+    /// `mcount m`: asks how many requests are outstanding.
+    Outstanding {
+        client: Name,
+    },
+    /// `close m`: closes the client with its endpoints.
+    CloseClient {
+        client: Name,
+    },
     /// `ctlin X CTL N TIME : STEP ; ..`: makes a control transfer that wants this many bytes, and
     /// waits for it. USB 2.0, section 9.3.
     ControlIn {
@@ -531,6 +560,8 @@ impl Item {
             | Item::Write { steps, .. }
             | Item::Flush { steps, .. }
             | Item::FlushEnd { steps, .. }
+            | Item::Request { steps, .. }
+            | Item::Response { steps, .. }
             | Item::ControlIn { steps, .. }
             | Item::ControlOut { steps, .. }
             | Item::WaitFuture { steps, .. }
@@ -557,6 +588,8 @@ impl Item {
             Item::Write { steps, .. } => steps,
             Item::Flush { steps, .. } => steps,
             Item::FlushEnd { steps, .. } => steps,
+            Item::Request { steps, .. } => steps,
+            Item::Response { steps, .. } => steps,
             Item::ControlIn { steps, .. } => steps,
             Item::ControlOut { steps, .. } => steps,
             Item::WaitFuture { steps, .. } => steps,

@@ -56,6 +56,14 @@ pub fn write_line(alloc: Global, words: &[&[u8]]) -> Result<Item, LineError>
     form!(alloc, words, Write { writer: w, bytes: BYTES; steps })
 }
 
+/// `mreq m BYTES : STEP ; ..`.
+pub fn mreq_line(alloc: Global, words: &[&[u8]]) -> Result<Item, LineError>
+    ensures value { Gives (λ i. i) result (read_by forms (codes "mreq") (texts words.now)) }
+    ensures few { IfOk result (λ item. places_in item ≤ length words.now) }
+{
+    form!(alloc, words, Request { client: m, body: BYTES; steps })
+}
+
 /// `xferout e BYTES TIME : STEP ; ..`.
 #[tactic(auto, unfolding(crate::specs::Forms::forms))]
 pub fn xferout_line(alloc: Global, words: &[&[u8]]) -> Result<Item, LineError>
@@ -79,6 +87,18 @@ pub fn dsubmitin_line(words: &[&[u8]]) -> Result<Item, LineError>
         length,
         timeout,
     })
+}
+
+/// `msg m e e`.
+pub fn msg_line(words: &[&[u8]]) -> Result<Item, LineError>
+    ensures value { Gives (λ i. i) result (read_by forms (codes "msg") (texts words.now)) }
+    ensures few { IfOk result (λ item. places_in item ≤ length words.now) }
+{
+    let (client, out, inp) = three_words(words)?;
+    let client = Name::parse(b'm', client)?;
+    let out = Name::parse(b'e', out)?;
+    let inp = Name::parse(b'e', inp)?;
+    Ok(Item::Client { client, out, inp })
 }
 
 /// `open d B B`.

@@ -38,7 +38,7 @@ pub fn clone_line(words: &[&[u8]]) -> Result<Item, LineError>
     Ok(Item::CloneInterface { name, interface })
 }
 
-/// `close d`, and so with the name of an interface, an endpoint, a reader, a writer or a future.
+/// `close d`, and so with the name of an interface, an endpoint, a reader, a writer, a client or a future.
 pub fn close_line(words: &[&[u8]]) -> Result<Item, LineError>
     ensures value { Gives (λ i. i) result (read_by forms (codes "close") (texts words.now)) }
     ensures few { IfOk result (λ item. places_in item ≤ length words.now) }
@@ -58,6 +58,9 @@ pub fn close_line(words: &[&[u8]]) -> Result<Item, LineError>
     }
     if let Some(writer) = Name::spelled(b'w', word) {
         return Ok(Item::CloseWriter { writer });
+    }
+    if let Some(client) = Name::spelled(b'm', word) {
+        return Ok(Item::CloseClient { client });
     }
     let future = Name::parse(b'f', word)?;
     Ok(Item::CloseFuture { future })

@@ -5,7 +5,7 @@ use Rattle.usb_script_words.specs.declared.endpoint_kind.EndpointKind.{EndpointK
 use Rattle.usb_script_words.specs.declared.selector.Criterion.{Criterion}
 use Rattle.usb_script_words.specs.Words.{number_of, time_of, name_of, hex_byte_of, hex_word_of, bytes_of, kind_of, errno_of, read_length_of, call_of}
 use Rattle.usb_script_words.specs.Fields.{Word}
-use Rattle.usb_script_words.specs.Letters.{simulated_letter, device_letter, interface_letter, endpoint_letter, reader_letter, writer_letter, future_letter}
+use Rattle.usb_script_words.specs.Letters.{simulated_letter, device_letter, interface_letter, endpoint_letter, reader_letter, writer_letter, client_letter, future_letter}
 use Rattle.usb_script_words.specs.Places.{path_of, file_name_of, target_of, value_of}
 use Rattle.usb_script_words.specs.Selectors.{selector_of}
 
@@ -28,6 +28,9 @@ r = name_of reader_letter
 
 abbrev pub w : Word → Option ℕ
 w = name_of writer_letter
+
+abbrev pub m : Word → Option ℕ
+m = name_of client_letter
 
 abbrev pub f : Word → Option ℕ
 f = name_of future_letter

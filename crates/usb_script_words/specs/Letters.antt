@@ -28,3 +28,7 @@ reader_letter = 114
 -- w: a writer of an endpoint
 abbrev pub writer_letter : ℕ
 writer_letter = 119
+
+-- m: a client of messages
+abbrev pub client_letter : ℕ
+client_letter = 109
