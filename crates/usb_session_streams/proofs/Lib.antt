@@ -12,3 +12,10 @@ pub mod TicketMoves
 pub mod Tells
 mod WorkedLines
 mod Keeps
+mod TicketCounts
+pub mod ClientsGoOn
+mod Messaging
+mod RequestsTake
+mod ResponsesTake
+pub mod ClientsKeep
+mod ClientsLeave

@@ -36,7 +36,7 @@ use Rattle.usb_session_streams.proofs.Halted.{halted-rest, halted-settings}
 settings-same : (r : ReaderState) → KeepsSettings r r
 settings-same r = record { n = refl; size = refl; timeout = refl }
 
-call-same : (w : Reading HostState) → ReaderGoesOn w w
+pub call-same : (w : Reading HostState) → ReaderGoesOn w w
 call-same w =
     record {
       line = line-same w.bus;

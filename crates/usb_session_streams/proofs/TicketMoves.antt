@@ -81,7 +81,7 @@ numbers-append k n (suc m) =
     ∙ append_assoc (numbers_from k n) (numbers_from (k + n) m) ((k + (n + m)) ∷ [])
     ∙ ap (λ (i : ℕ). numbers_from k n ++ (numbers_from (k + n) m ++ i ∷ [])) last
 
-numbers-between : (a b c : ℕ) → a ≤ b → b ≤ c → numbers_from a (b - a) ++ numbers_from b (c - b) ≡ numbers_from a (c - a)
+pub numbers-between : (a b c : ℕ) → a ≤ b → b ≤ c → numbers_from a (b - a) ++ numbers_from b (c - b) ≡ numbers_from a (c - a)
 numbers-between a b c first second =
     let here : b ≡ a + (b - a) = omega (arith, first) in
     let all : (b - a) + (c - b) ≡ c - a = omega (arith, first, second) in

@@ -45,10 +45,10 @@ call-short None old new is = subst (WriterGoesOn old) (sym is) (call-same old)
 call-short (Some bytes) old new (inl is) = subst (WriterGoesOn old) (sym is) (call-same old)
 call-short (Some bytes) old new (inr h) = subst (WriterGoesOn old) (sym h.1) (call-send old (out_buffer old.writer.size bytes))
 
-call-end_short : (old new : Writing HostState) → SubmitEndShort host_calls old new → WriterGoesOn old new
+pub call-end_short : (old new : Writing HostState) → SubmitEndShort host_calls old new → WriterGoesOn old new
 call-end_short old new short = call-trans old (not_begun old) new (call-not_begun old) (call-short old.writer.buffer (not_begun old) new short)
 
-call-write_short : (timeout : ℕ) (src : List ℕ) (old new : Writing HostState) → WriteShort host_calls timeout src old new → WriterGoesOn old new
+pub call-write_short : (timeout : ℕ) (src : List ℕ) (old new : Writing HostState) → WriteShort host_calls timeout src old new → WriterGoesOn old new
 call-write_short timeout src old new short =
     let left = (write_drained host_calls timeout old).left in call-trans old left new (call-write_drained timeout old) (call-accepts_none src left new short.none)
 

@@ -12,3 +12,8 @@ pub mod Writes
 pub mod Needs
 pub mod Printed
 pub mod Short
+pub mod ClientLines
+pub mod ClientNeeds
+pub mod Clients
+pub mod ClientCalls
+pub mod ClientTickets

@@ -1,7 +1,12 @@
-//! The calls of readers and writers at a host, as lines of a session: when a call is barred, what it
-//! prints, what it leaves of the host, and laws of it. Each line is appended to a text.
+//! The calls of readers, writers and clients of messages at a host, as lines of a session: when a
+//! call is barred, what it prints, what it leaves of the host, and laws of it. Each line is appended
+//! to a text.
 #![tactic(auto)]
 
+mod client_laws;
+mod client_lines;
+mod client_needs;
+mod clients;
 mod faults;
 mod flushes;
 mod needs;
@@ -13,6 +18,8 @@ mod writer_laws;
 mod writes;
 mod wrote;
 
+pub use client_laws::{client_calls_go_on, client_calls_keep};
+pub use clients::{request, response, write_count};
 pub use faults::{write_io_fault, write_read_fault, write_write_fault};
 pub use flushes::{flush, flush_end, poll_flush, poll_flush_end};
 pub use needs::{MOST_PENDING, MOST_UNREAPED, bars_need, bars_transfers};
