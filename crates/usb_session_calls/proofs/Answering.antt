@@ -6,7 +6,8 @@ use Rattle.usb_session_text.specs.Calls.{condition_line}
 use Rattle.usb_session_calls.specs.Names.{is_free}
 use Rattle.usb_io.specs.Readers.{ReaderState}
 use Rattle.usb_io.specs.Writers.{WriterState}
-use Rattle.usb_session_calls.specs.State.{State, Endpoint, Reader, Writer, endpoint_of_reader, endpoint_of_writer}
+use Rattle.usb_msg.specs.Clients.{ClientState}
+use Rattle.usb_session_calls.specs.State.{State, Endpoint, Reader, Writer, Client, endpoint_of_reader, endpoint_of_writer, endpoint_of_client_writer, endpoint_of_client_reader}
 use Rattle.usb_session_calls.specs.EndpointNames.{EndpointName, endpoint_under}
 use Rattle.usb_session_calls.proofs.EndpointNameLemmas.{held-seen}
 use Rattle.usb_session_calls.specs.Answer.{Answer, answer_with, condition_answer, if_open}
@@ -59,4 +60,7 @@ free_kept s state e r = ap (λ (v : SessionState). is_free v.endpoints e) r ∙ 
 pub under_kept : (s : SessionState) (state : State) (e : EndpointName) → Represents s state → open_under s e ≡ option_map (λ (x : Endpoint). x.state) (endpoint_under state e)
 under_kept s state e r =
     ap (λ (v : SessionState). open_under v e) r
-    ∙ held-seen (λ (x : Endpoint). x.state) (λ (x : Reader). x.state) (λ (x : Writer). x.state) endpoint_of_reader endpoint_of_writer (λ (x : ReaderState). x.endpoint) (λ (x : WriterState). x.endpoint) (λ x. refl) (λ x. refl) state.endpoints state.readers state.writers e
+    ∙ held-seen (λ (x : Endpoint). x.state) (λ (x : Reader). x.state) (λ (x : Writer). x.state) (λ (x : Client). x.state)
+    endpoint_of_reader endpoint_of_writer endpoint_of_client_writer endpoint_of_client_reader
+    (λ (x : ReaderState). x.endpoint) (λ (x : WriterState). x.endpoint) (λ (x : ClientState). x.writer.endpoint) (λ (x : ClientState). x.reader.endpoint)
+    (λ x. refl) (λ x. refl) (λ x. refl) (λ x. refl) state.endpoints state.readers state.writers state.clients e

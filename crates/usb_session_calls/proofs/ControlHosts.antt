@@ -10,7 +10,7 @@ use Rattle.usb_kernel.proofs.Extends.{extends-same, extends-trans}
 use Rattle.usb_device_endpoint.specs.BusState.{BusState, without_key}
 use Rattle.usb_device_endpoint.specs.EndpointState.{EndpointState}
 use Rattle.usb_device_endpoint.specs.Handles.{Stands, KeepsOthers}
-use Rattle.usb_device_endpoint.proofs.Frames.{Stands-other, Stands-later}
+use Rattle.usb_device_endpoint.proofs.Frames.{Stands-later, Stands-other, keeps_others}
 use Rattle.usb_device_ledger.specs.Entries.{control_endpoint}
 use Rattle.usb_device_ledger.proofs.DeviceLemmas.{counts-same}
 use Rattle.usb_xfer.specs.declared.transfer.TransferData.{TransferData}
@@ -200,10 +200,9 @@ module _ (host : HostState) (steps : List KernelStep) (f : FutureState) (some : 
   waited-others =
       let others = others-taken ready f (future-went with_steps ready f waited stands-lent_host) in
       let later = (went-rest gone).later in
-      record {
-        tickets = λ t k apart is. ap (λ (o : ℕ → Option ℕ). o t) later.owner ∙ others.tickets t k apart (ap (λ (o : ℕ → Option ℕ). o t) waited.later.owner ∙ is);
-        keys = λ k apart is. ap (λ (keys : ℕ → Bool). keys k) later.keys ∙ others.keys k apart (ap (λ (keys : ℕ → Bool). keys k) waited.later.keys ∙ is);
-      }
+      keeps_others (bus_of host) (bus_of (host_rest gone)) f.key
+      (λ t k apart is. ap (λ (o : ℕ → Option ℕ). o t) later.owner ∙ others.tickets t k apart (ap (λ (o : ℕ → Option ℕ). o t) waited.later.owner ∙ is))
+      (λ k apart is. ap (λ (keys : ℕ → Bool). keys k) later.keys ∙ others.keys k apart (ap (λ (keys : ℕ → Bool). keys k) waited.later.keys ∙ is))
 
   waited-keys : (k : ℕ) → key_at (host_rest gone).endpoints k ≡ without_key (key_at host.endpoints) f.key k
   waited-keys k =

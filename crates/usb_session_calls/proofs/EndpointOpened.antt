@@ -152,6 +152,7 @@ endpoint-sound s now after e i address y c sound is key small stands others free
       endpoint_names = ap (λ (l : List (Option EndpointState)). length l) put ∙ length-set_name s.endpoints e y ∙ sound.endpoint_names;
       reader_names = sound.reader_names;
       writer_names = sound.writer_names;
+      client_names = sound.client_names;
       devices_stand = λ d k at. counts-stands s.host now k keeps.devices (sound.devices_stand d k at);
       devices_counted = devices-kept s.host.devices now.devices s.devices (opened-counts s.host.devices now.devices keeps.devices) sound.devices_counted;
       devices_held = held-goes s.host now keeps.devices keeps.interfaces sound.devices_held;

@@ -6,7 +6,7 @@ use Rattle.usb_kernel.specs.Extends.{Extends}
 use Rattle.usb_device_endpoint.specs.BusState.{BusState, without_owner, without_key}
 use Rattle.usb_device_endpoint.specs.EndpointState.{EndpointState}
 use Rattle.usb_device_endpoint.specs.Handles.{KeepsOthers}
-use Rattle.usb_device_endpoint.proofs.Frames.{Stands-other}
+use Rattle.usb_device_endpoint.proofs.Frames.{Stands-other, keeps_others, others-same}
 use Rattle.usb_device_endpoint.proofs.HandleLemmas.{KeepsOthers-end}
 use Rattle.usb_device_ledger.specs.Entries.{HostEndpoint}
 use Rattle.usb_device_host.specs.HostState.{HostState}
@@ -50,11 +50,10 @@ pub record LeavesKey (old new : HostState) (key : ℕ) (pending : List ℕ) : Ty
 module _ (h mid : HostState) (key t : ℕ) (keeps : KeepsOpen h mid) where
   left-others : bus_of mid ≡ record (bus_of h) { owner = without_owner (owner_at h.tickets) t } → owner_at h.tickets t ≡ Some key → KeepsOthers (bus_of h) (bus_of (host_left mid key)) key
   left-others ended held =
-      let gone = KeepsOthers-end (bus_of h) (bus_of h) (bus_of mid) key t (record { tickets = λ u k other own. own; keys = λ k other is. is }) held ended in
-      record {
-        tickets = λ u k other own. ap (λ (b : BusState). b.owner u) (bus-left mid key) ∙ gone.tickets u k other own;
-        keys = λ k other is. ap (λ (b : BusState). b.keys k) (bus-left mid key) ∙ kept_key (key_at mid.endpoints) k other (gone.keys k other is);
-      }
+      let gone = KeepsOthers-end (bus_of h) (bus_of h) (bus_of mid) key t (others-same (bus_of h) (bus_of h) key refl refl) held ended in
+      keeps_others (bus_of h) (bus_of (host_left mid key)) key
+      (λ u k other own. ap (λ (b : BusState). b.owner u) (bus-left mid key) ∙ gone.tickets u k other own)
+      (λ k other is. ap (λ (b : BusState). b.keys k) (bus-left mid key) ∙ kept_key (key_at mid.endpoints) k other (gone.keys k other is))
     where
       kept_key : (keys : ℕ → Bool) (k : ℕ) → k ≢ key → keys k ≡ true → without_key keys key k ≡ true
       kept_key keys k other is = cond_both (key == k) false (keys k) (λ b. b ≡ true) (λ same. absurd (other (sym (eqb-true key k same)))) (λ no_. is)
@@ -110,6 +109,7 @@ sound-future_freed s now after n x sound was rest leaves =
       endpoint_names = sound.endpoint_names;
       reader_names = sound.reader_names;
       writer_names = sound.writer_names;
+      client_names = sound.client_names;
       devices_stand = λ d k is. counts-stands s.host now k keeps.devices (sound.devices_stand d k is);
       devices_counted = devices-kept s.host.devices now.devices s.devices (opened-counts s.host.devices now.devices keeps.devices) sound.devices_counted;
       devices_held = held-goes s.host now keeps.devices keeps.interfaces sound.devices_held;
@@ -144,6 +144,7 @@ sound-future_opened s now after n x h sound free put key some stands keeps other
       endpoint_names = sound.endpoint_names;
       reader_names = sound.reader_names;
       writer_names = sound.writer_names;
+      client_names = sound.client_names;
       devices_stand = λ d k is. counts-stands s.host now k keeps.devices (sound.devices_stand d k is);
       devices_counted = devices-kept s.host.devices now.devices s.devices (opened-counts s.host.devices now.devices keeps.devices) sound.devices_counted;
       devices_held = held-goes s.host now keeps.devices keeps.interfaces sound.devices_held;

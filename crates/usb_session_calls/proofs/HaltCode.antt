@@ -1,5 +1,5 @@
 -- What the clear of a halt answers.
-use Rattle.std.proofs.Common.{◌≡◌, ◌∙◌, ℕ, List, ◌++◌, Result, refl, ap, sym, String, string_bytes}
+use Rattle.std.proofs.Common.{◌≡◌, ◌∙◌, ◌++◌, Result, ap, sym, String, string_bytes}
 use Rattle.std.specs.Prelude.{OnOk}
 use Rattle.std.specs.declared.alloc.Global.{Global}
 use Rattle.usb_device_endpoint.specs.EndpointState.{EndpointState}

@@ -47,6 +47,7 @@ sound-handled s now after sound keeps names stands counted held claims =
       endpoint_names = sound.endpoint_names;
       reader_names = sound.reader_names;
       writer_names = sound.writer_names;
+      client_names = sound.client_names;
       devices_stand = λ d k at. kept-stands s.host now k keeps.devices (sound.devices_stand d k at);
       devices_counted = devices-kept s.host.devices now.devices s.devices keeps.devices sound.devices_counted;
       devices_held = held;

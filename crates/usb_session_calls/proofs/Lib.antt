@@ -1,6 +1,7 @@
 pub mod NameLemmas
 pub mod EndpointNameLemmas
 pub mod Answering
+pub mod SoundOver
 pub mod Called
 pub mod CountedNames
 pub mod ControlHosts
@@ -26,4 +27,7 @@ pub mod InterfaceCalls
 pub mod SoundDevices
 pub mod WaitCode
 pub mod WriterCode
+pub mod ClientCode
+pub mod ClientNames
+pub mod Moved
 pub mod LentHosts

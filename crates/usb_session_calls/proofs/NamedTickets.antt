@@ -13,6 +13,7 @@ use Rattle.usb_session_calls.specs.EndpointNames.{EndpointName}
 use Rattle.usb_session_calls.specs.HeldTickets.{Covered, IsAwaited, TicketsAreNamed}
 use Rattle.usb_session_calls.specs.SessionState.{SessionState, IsSound, open_under}
 use Rattle.usb_session_calls.proofs.EndpointNameLemmas.{Changed, cases_name}
+use Rattle.usb_session_calls.proofs.SoundOver.{SoundOver}
 use Rattle.usb_session_calls.proofs.NameLemmas.{free-none, named-set, named-set_other, named-freed_other}
 
 -- so it is of endpoints as their calls see them
@@ -76,33 +77,20 @@ only-one (Some u) t there = by there.0 there.1 there.2
     by (suc k) below is = absurd (omega arith)
 
 -- of a sound session: what an endpoint holds is pending at it
-module _ (s : SessionState) (sound : IsSound s) where
-  pub holds-pending : (e : EndpointName) (x : EndpointState) → open_under s e ≡ Some x → HoldsOnly s.host x.key x.pending
+module _ (s : SessionState) (h : HostState) (opened : EndpointName → Option EndpointState) (sound : SoundOver s h opened) where
+  pub holds-pending : (e : EndpointName) (x : EndpointState) → opened e ≡ Some x → HoldsOnly h x.key x.pending
   holds-pending e x was t own =
       elim (sound.tickets_named t x.key own) [
         | inl c ↦ elim (cases_name c.name e) [
-          | inl same ↦ subst (λ (z : EndpointState). Contains z.pending t) (same_Some c.entry x (sym c.at ∙ ap (open_under s) same ∙ was)) c.in_pending
+          | inl same ↦ subst (λ (z : EndpointState). Contains z.pending t) (same_Some c.entry x (sym c.at ∙ ap opened same ∙ was)) c.in_pending
           | inr other ↦ absurd (sound.endpoints_differ c.name e c.entry x c.at was other c.key_is)
         ]
         | inr w ↦ absurd (sound.futures_apart e w.name x w.future was w.at (sym w.key_is))
       ]
 
-  -- what that of a future holds is the future's ticket
-  pub holds-ticket : (n : ℕ) (f : FutureState) → named s.futures n ≡ Some f → HoldsOnly s.host f.key (cons_option f.ticket [])
-  holds-ticket n f was t own =
-      elim (sound.tickets_named t f.key own) [
-        | inl c ↦ absurd (sound.futures_apart c.name n c.entry f c.at was c.key_is)
-        | inr w ↦ elim (cases_eq w.name n) [
-          | inl same ↦
-              let future : w.future ≡ f = same_Some w.future f (sym w.at ∙ ap (named s.futures) same ∙ was) in
-              subst (λ (o : Option ℕ). Contains (cons_option o []) t) (sym w.ticket_is ∙ ap (λ (z : FutureState). z.ticket) future) (Contains-push [] t)
-          | inr other ↦ absurd (sound.futures_differ w.name n w.future f w.at was other w.key_is)
-        ]
-      ]
-
   -- an endpoint was called, and put back under its name
-  module _ (now : HostState) (after : EndpointName → Option EndpointState) (e : EndpointName) (x : EndpointState) (was : open_under s e ≡ Some x) where
-    pub tickets-put : (y : EndpointState) → Changed (open_under s) after e (Some y) → y.key ≡ x.key → KeepsAccountsOf s.host now x.key x.pending y.pending → AreNamed now after s.futures
+  module _ (now : HostState) (after : EndpointName → Option EndpointState) (e : EndpointName) (x : EndpointState) (was : opened e ≡ Some x) where
+    pub tickets-put : (y : EndpointState) → Changed opened after e (Some y) → y.key ≡ x.key → KeepsAccountsOf h now x.key x.pending y.pending → AreNamed now after s.futures
     tickets-put y put same_key keeps t key own =
         elim (cases_eq key x.key) [
           | inl same ↦
@@ -114,21 +102,35 @@ module _ (s : SessionState) (sound : IsSound s) where
                 in_pending = keeps.own sound.tickets_counted (holds-pending e x was) t (own ∙ ap (λ k. Some k) same);
               })
           | inr apart ↦ elim (sound.tickets_named t key (keeps.others t key apart own)) [
-            | inl c ↦ inl (covered-other (open_under s) after e (Some y) x t key was put apart c)
+            | inl c ↦ inl (covered-other opened after e (Some y) x t key was put apart c)
             | inr w ↦ inr w
           ]
         ]
 
     -- or it was closed
-    pub tickets-gone : Changed (open_under s) after e None → KeepsAccountsOf s.host now x.key x.pending [] → AreNamed now after s.futures
+    pub tickets-gone : Changed opened after e None → KeepsAccountsOf h now x.key x.pending [] → AreNamed now after s.futures
     tickets-gone gone keeps t key own =
         elim (cases_eq key x.key) [
           | inl same ↦ absurd (no-element t (keeps.own sound.tickets_counted (holds-pending e x was) t (own ∙ ap (λ k. Some k) same)))
           | inr apart ↦ elim (sound.tickets_named t key (keeps.others t key apart own)) [
-            | inl c ↦ inl (covered-other (open_under s) after e None x t key was gone apart c)
+            | inl c ↦ inl (covered-other opened after e None x t key was gone apart c)
             | inr w ↦ inr w
           ]
         ]
+
+-- of a session: what the endpoint of a future holds is the future's ticket
+module _ (s : SessionState) (sound : IsSound s) where
+  pub holds-ticket : (n : ℕ) (f : FutureState) → named s.futures n ≡ Some f → HoldsOnly s.host f.key (cons_option f.ticket [])
+  holds-ticket n f was t own =
+      elim (sound.tickets_named t f.key own) [
+        | inl c ↦ absurd (sound.futures_apart c.name n c.entry f c.at was c.key_is)
+        | inr w ↦ elim (cases_eq w.name n) [
+          | inl same ↦
+              let future : w.future ≡ f = same_Some w.future f (sym w.at ∙ ap (named s.futures) same ∙ was) in
+              subst (λ (o : Option ℕ). Contains (cons_option o []) t) (sym w.ticket_is ∙ ap (λ (z : FutureState). z.ticket) future) (Contains-push [] t)
+          | inr other ↦ absurd (sound.futures_differ w.name n w.future f w.at was other w.key_is)
+        ]
+      ]
 
   -- a future is open no more
   pub tickets-future_gone : (now : HostState) (after : List (Option FutureState)) (n : ℕ) (f : FutureState) → named s.futures n ≡ Some f → after ≡ freed s.futures n → KeepsAccountsOf s.host now f.key (cons_option f.ticket []) [] → AreNamed now (open_under s) after

@@ -6,6 +6,7 @@ use Rattle.std.proofs.lemmas.Bool.Decides.{nat_tests}
 use Rattle.usb_kernel.proofs.Extends.{extends-same}
 use Rattle.usb_device_endpoint.specs.EndpointState.{EndpointState}
 use Rattle.usb_device_endpoint.specs.Handles.{Stands}
+use Rattle.usb_device_endpoint.proofs.Frames.{others-same}
 use Rattle.usb_device_endpoint.specs.Closes.{all_discarded}
 use Rattle.usb_device_host.specs.HostState.{HostState}
 use Rattle.usb_device_host.specs.HostBus.{bus_of}
@@ -155,7 +156,7 @@ keeps-rest host x y stands same =
       line = line-same host;
       past = extends-same host.kernel.past;
       stands = stands;
-      others = record { tickets = λ t k apart is. is; keys = λ k apart is. is };
+      others = others-same (bus_of host) (bus_of host) x.key refl refl;
       key = refl;
       maximum = refl;
       accounts = of-same host x.key x.pending;

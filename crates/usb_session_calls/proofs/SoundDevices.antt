@@ -36,6 +36,7 @@ sound-device s now after sound steps interfaces bus names stand counted held acc
       endpoint_names = sound.endpoint_names;
       reader_names = sound.reader_names;
       writer_names = sound.writer_names;
+      client_names = sound.client_names;
       devices_stand = stand;
       devices_counted = counted;
       devices_held = held;

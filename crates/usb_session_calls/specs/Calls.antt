@@ -4,7 +4,7 @@ use Rattle.usb_kernel_devices.specs.declared.step.KernelStep.{KernelStep}
 use Rattle.usb_script_lines.specs.declared.item.Item.{Item}
 use Rattle.usb_script_lines.specs.declared.item.Item.TheVariants as item
 use Rattle.usb_session_calls.specs.declared.call.Call.{Call}
-use Rattle.usb_session_calls.specs.declared.call.Call.TheVariants.{Setup, Steps, Now, Tree, Open, Close, Device, Interface, Endpoint, Reader, Writer, Control, Future}
+use Rattle.usb_session_calls.specs.declared.call.Call.TheVariants.{Setup, Steps, Now, Tree, Open, Close, Device, Interface, Endpoint, Reader, Writer, Client, Control, Future}
 use Rattle.usb_session_calls.specs.declared.call.TreeCall.TheVariants as trees
 use Rattle.usb_session_calls.specs.declared.call.OpenCall.TheVariants as opens
 use Rattle.usb_session_calls.specs.declared.call.CloseCall.TheVariants as closes
@@ -13,6 +13,7 @@ use Rattle.usb_session_calls.specs.declared.call.InterfaceCall.TheVariants as in
 use Rattle.usb_session_calls.specs.declared.call.EndpointCall.TheVariants as endpoints
 use Rattle.usb_session_calls.specs.declared.call.ReaderCall.TheVariants as readers
 use Rattle.usb_session_calls.specs.declared.call.WriterCall.TheVariants as writers
+use Rattle.usb_session_calls.specs.declared.call.ClientCall.TheVariants as clients
 use Rattle.usb_session_calls.specs.declared.call.ControlCall.TheVariants as controls
 use Rattle.usb_session_calls.specs.declared.call.FutureCall.TheVariants as futures
 
@@ -45,6 +46,7 @@ call_of (item.Reader r e size) = Open (opens.Reader r e size)
 call_of (item.IntoInner e r) = Open (opens.ReaderInner e r)
 call_of (item.Writer w e size) = Open (opens.Writer w e size)
 call_of (item.WriterIntoInner e w) = Open (opens.WriterInner e w)
+call_of (item.Client m out inp) = Open (opens.Client m out inp)
 call_of (item.StartControlIn n target setup wanted timeout) = Open (opens.ControlIn n target setup wanted timeout)
 call_of (item.StartControlOut n target setup bytes timeout) = Open (opens.ControlOut n target setup bytes timeout)
 call_of (item.CloseDevice d) = Close (closes.Device d)
@@ -53,6 +55,7 @@ call_of (item.Release i) = Close (closes.Release i)
 call_of (item.CloseEndpoint e) = Close (closes.Endpoint e)
 call_of (item.CloseReader r) = Close (closes.Reader r)
 call_of (item.CloseWriter w) = Close (closes.Writer w)
+call_of (item.CloseClient m) = Close (closes.Client m)
 call_of (item.CloseFuture n) = Close (closes.Future n)
 call_of (item.DeviceDescriptor d) = Device d devices.Descriptor
 call_of (item.Descriptors d) = Device d devices.Descriptors
@@ -97,6 +100,9 @@ call_of (item.FlushEnd w steps) = Writer w writers.FlushEnd steps
 call_of (item.PollFlushEnd w) = Writer w writers.PollFlushEnd []
 call_of (item.SetWriterTransfers w n) = Writer w (writers.SetNumTransfers n) []
 call_of (item.SetWriteTimeout w timeout) = Writer w (writers.SetWriteTimeout timeout) []
+call_of (item.Request m body steps) = Client m (clients.Request body) steps
+call_of (item.Response m steps) = Client m clients.Response steps
+call_of (item.Outstanding m) = Client m clients.Outstanding []
 call_of (item.ControlIn target setup wanted timeout steps) = Control (controls.In target setup wanted timeout) steps
 call_of (item.ControlOut target setup bytes timeout steps) = Control (controls.Out target setup bytes timeout) steps
 call_of (item.GetDescriptor d kind index language timeout steps) = Control (controls.Descriptor d kind index language timeout) steps
@@ -111,6 +117,7 @@ steps_of (Steps steps) = steps
 steps_of (Endpoint e call steps) = steps
 steps_of (Reader r call steps) = steps
 steps_of (Writer w call steps) = steps
+steps_of (Client m call steps) = steps
 steps_of (Control call steps) = steps
 steps_of (Future n (futures.Wait steps)) = steps
 steps_of call = []

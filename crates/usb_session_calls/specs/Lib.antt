@@ -18,12 +18,15 @@ pub mod Readers
 pub mod Reads
 pub mod Writers
 pub mod Writes
+pub mod Clients
+pub mod Messages
 pub mod Calls
 pub mod DeviceCalls
 pub mod InterfaceCalls
 pub mod EndpointCalls
 pub mod CalledReaders
 pub mod CalledWriters
+pub mod CalledClients
 pub mod HeldTickets
 pub mod SessionState
 pub mod SessionParts
@@ -32,4 +35,5 @@ pub mod Answered
 pub mod OpenCalls
 pub mod ReaderCalls
 pub mod WriterCalls
+pub mod ClientCalls
 pub mod TargetCalls

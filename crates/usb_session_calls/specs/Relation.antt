@@ -2,9 +2,9 @@
 use Rattle.std.specs.Prelude.{◌≡◌, map}
 use Rattle.std.specs.Option.{option_map}
 use Rattle.usb_session_calls.specs.SessionState.{SessionState}
-use Rattle.usb_session_calls.specs.State.{State, Endpoint, Reader, Writer}
+use Rattle.usb_session_calls.specs.State.{State, Endpoint, Reader, Writer, Client}
 
--- what a session keeps of a state: endpoints, readers and writers as their calls see them
+-- what a session keeps of a state: endpoints, readers, writers and clients as their calls see them
 abbrev pub session_of : State → SessionState
 session_of state =
     record {
@@ -14,6 +14,7 @@ session_of state =
       endpoints = map (option_map (λ (x : Endpoint). x.state)) state.endpoints;
       readers = map (option_map (λ (x : Reader). x.state)) state.readers;
       writers = map (option_map (λ (x : Writer). x.state)) state.writers;
+      clients = map (option_map (λ (x : Client). x.state)) state.clients;
       futures = state.futures;
       tree = state.tree;
       packets = state.packets;

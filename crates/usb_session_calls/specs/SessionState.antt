@@ -12,6 +12,7 @@ use Rattle.usb_device_host.specs.HostState.{HostState}
 use Rattle.usb_device_host.specs.HostBus.{bus_of, key_at}
 use Rattle.usb_io.specs.Readers.{ReaderState}
 use Rattle.usb_io.specs.Writers.{WriterState}
+use Rattle.usb_msg.specs.Clients.{ClientState}
 use Rattle.usb_device_host.specs.HandleStates.{InterfaceState, StandsDevice, StandsInterface}
 use Rattle.usb_device.specs.Futures.{FutureState, StandsFuture}
 use Rattle.usb_device_host.specs.DeviceLaws.{DevicesAreHeld}
@@ -21,8 +22,8 @@ use Rattle.usb_session_calls.specs.Names.{named}
 use Rattle.usb_session_calls.specs.EndpointNames.{EndpointName, held_under}
 use Rattle.usb_session_calls.specs.HeldTickets.{TicketsAreNamed}
 
--- the host, and what is open by the number of its name: the keys of devices, the interfaces, the endpoints, readers and writers as
--- their calls see them, and the futures; the tree of attributes, and the packets of udev that are left
+-- the host, and what is open by the number of its name: the keys of devices, the interfaces, the endpoints, readers, writers and
+-- clients of messages as their calls see them, and the futures; the tree of attributes, and the packets of udev that are left
 pub record SessionState : Type 0 where
   pub host : HostState
   pub devices : List (Option ℕ)
@@ -30,6 +31,7 @@ pub record SessionState : Type 0 where
   pub endpoints : List (Option EndpointState)
   pub readers : List (Option ReaderState)
   pub writers : List (Option WriterState)
+  pub clients : List (Option ClientState)
   pub futures : List (Option FutureState)
   pub tree : Tree
   pub packets : List UdevPacket
@@ -56,7 +58,10 @@ future_key f = f.key
 
 -- the endpoint that is open under a name, as its calls see it
 abbrev pub open_under : SessionState → EndpointName → Option EndpointState
-open_under s = held_under (λ (x : ReaderState). x.endpoint) (λ (x : WriterState). x.endpoint) s.endpoints s.readers s.writers
+open_under s =
+    held_under (λ (x : ReaderState). x.endpoint) (λ (x : WriterState). x.endpoint)
+    (λ (x : ClientState). x.writer.endpoint) (λ (x : ClientState). x.reader.endpoint)
+    s.endpoints s.readers s.writers s.clients
 
 -- an endpoint that is open under some name has this key
 pub record IsUnder (opened : EndpointName → Option EndpointState) (key : ℕ) : Type 0 where
@@ -82,6 +87,7 @@ pub record IsSound (s : SessionState) : Type 0 where
   pub endpoint_names : length s.endpoints ≡ 64
   pub reader_names : length s.readers ≡ 64
   pub writer_names : length s.writers ≡ 64
+  pub client_names : length s.clients ≡ 64
   pub future_names : length s.futures ≡ 64
   pub devices_stand : (d key : ℕ) → named s.devices d ≡ Some key → StandsDevice s.host key
   pub devices_counted : (key : ℕ) (o : OpenDevice) → value_at s.host.devices key ≡ Some o → count_by (is_device_of key) s.devices ≡ o.handles

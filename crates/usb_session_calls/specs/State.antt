@@ -10,6 +10,7 @@ use Rattle.usb_device.specs.Futures.{FutureState}
 use Rattle.usb_io.specs.Readers.{ReaderState}
 use Rattle.usb_io.specs.Streams.{Mark}
 use Rattle.usb_io.specs.Writers.{WriterState}
+use Rattle.usb_msg.specs.Clients.{ClientState}
 use Rattle.usb_session_streams.specs.Told.{WriterCalls}
 
 -- an open endpoint: as its calls see it, which keep its pending tickets; those that were taken, in the order of submission; and
@@ -41,6 +42,18 @@ pub record Writer : Type 0 where
   pub taken : List ℕ
   pub calls : Option WriterCalls
 
+-- an open client of messages: as its calls see it, with both endpoints; of the endpoint of its writer the tickets that were taken
+-- before the client was made, and those that its writer took, and so of its reader's; and the bodies of the requests that it
+-- accepted, and of the responses that it answered, in order
+pub record Client : Type 0 where
+  pub state : ClientState
+  pub before_out : List ℕ
+  pub sent : List ℕ
+  pub before_in : List ℕ
+  pub received : List ℕ
+  pub requests : List (List ℕ)
+  pub responses : List (List ℕ)
+
 -- the endpoints that they hold
 abbrev pub endpoint_of_reader : Reader → Endpoint
 endpoint_of_reader x = record { state = x.state.endpoint; taken = x.before ++ x.taken; was_streamed = true }
@@ -48,9 +61,17 @@ endpoint_of_reader x = record { state = x.state.endpoint; taken = x.before ++ x.
 abbrev pub endpoint_of_writer : Writer → Endpoint
 endpoint_of_writer x = record { state = x.state.endpoint; taken = x.taken; was_streamed = true }
 
+abbrev pub endpoint_of_client_writer : Client → Endpoint
+endpoint_of_client_writer x =
+    record { state = x.state.writer.endpoint; taken = x.before_out ++ x.sent; was_streamed = true }
+
+abbrev pub endpoint_of_client_reader : Client → Endpoint
+endpoint_of_client_reader x =
+    record { state = x.state.reader.endpoint; taken = x.before_in ++ x.received; was_streamed = true }
+
 -- the host, and what is open by the number of its name: the keys of devices, the interfaces, the endpoints, the readers, the
--- writers, and the control transfers on their way (futures); the tree of attributes, and the packets of udev that are still
--- to be looked at
+-- writers, the clients of messages, and the control transfers on their way (futures); the tree of attributes, and the packets of
+-- udev that are still to be looked at
 pub record State : Type 0 where
   pub host : HostState
   pub devices : List (Option ℕ)
@@ -58,6 +79,7 @@ pub record State : Type 0 where
   pub endpoints : List (Option Endpoint)
   pub readers : List (Option Reader)
   pub writers : List (Option Writer)
+  pub clients : List (Option Client)
   pub futures : List (Option FutureState)
   pub tree : Tree
   pub packets : List UdevPacket

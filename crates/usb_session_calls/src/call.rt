@@ -30,6 +30,8 @@ pub enum Call {
     Reader(Name, ReaderCall, Steps),
     /// A call on the writer of this name.
     Writer(Name, WriterCall, Steps),
+    /// A call on the client of messages of this name.
+    Client(Name, ClientCall, Steps),
     /// A control transfer, which is awaited.
     Control(ControlCall, Steps),
     /// A call on the control transfer on its way that has this name.
@@ -111,6 +113,12 @@ pub enum OpenCall {
         endpoint: Name,
         writer: Name,
     },
+    /// A client of messages, of an OUT and of an IN endpoint whose names are free then.
+    Client {
+        client: Name,
+        out: Name,
+        inp: Name,
+    },
     /// A control transfer on its way, which asks for so many bytes.
     ControlIn {
         future: Name,
@@ -144,6 +152,8 @@ pub enum CloseCall {
     Reader(Name),
     /// A writer, with its endpoint.
     Writer(Name),
+    /// A client of messages, with both of its endpoints.
+    Client(Name),
     /// A control transfer on its way, which goes on, and which nobody can take any more.
     Future(Name),
 }
@@ -254,6 +264,17 @@ pub enum WriterCall {
     SetNumTransfers(u32),
     /// The timeout of its waits is set.
     SetWriteTimeout(Timeout),
+}
+
+/// A call on a client of messages.
+#[derive(Drop)]
+pub enum ClientCall {
+    /// A request with this body is sent.
+    Request(Data),
+    /// The next response is waited for and taken.
+    Response,
+    /// How many requests are outstanding.
+    Outstanding,
 }
 
 /// A control transfer that is awaited.

@@ -5,8 +5,8 @@ ghost use Rattle.usb_script_lines.specs.ItemKinds.{places_in};
 ghost use Rattle.usb_session_calls.specs.Calls.{call_of, places_of};
 
 use crate::call::{
-    Call, CloseCall, ControlCall, DeviceCall, EndpointCall, FutureCall, InterfaceCall, OpenCall,
-    ReaderCall, TreeCall, WriterCall,
+    Call, ClientCall, CloseCall, ControlCall, DeviceCall, EndpointCall, FutureCall, InterfaceCall,
+    OpenCall, ReaderCall, TreeCall, WriterCall,
 };
 use std::alloc::Global;
 use usb_script_lines::{Item, Steps};
@@ -69,6 +69,7 @@ pub fn call_of(alloc: Global, item: Item) -> Call
             Call::Open(OpenCall::Writer { writer, endpoint, transfer_size });
         WriterIntoInner { endpoint, writer } =>
             Call::Open(OpenCall::WriterInner { endpoint, writer });
+        Client { client, out, inp } => Call::Open(OpenCall::Client { client, out, inp });
         StartControlIn { future, target, setup, length, timeout } =>
             Call::Open(OpenCall::ControlIn { future, target, setup, length, timeout });
         StartControlOut { future, target, setup, bytes, timeout } =>
@@ -79,6 +80,7 @@ pub fn call_of(alloc: Global, item: Item) -> Call
         CloseEndpoint { endpoint } => Call::Close(CloseCall::Endpoint(endpoint));
         CloseReader { reader } => Call::Close(CloseCall::Reader(reader));
         CloseWriter { writer } => Call::Close(CloseCall::Writer(writer));
+        CloseClient { client } => Call::Close(CloseCall::Client(client));
         CloseFuture { future } => Call::Close(CloseCall::Future(future));
         DeviceDescriptor { device } => Call::Device(device, DeviceCall::Descriptor);
         Descriptors { device } => Call::Device(device, DeviceCall::Descriptors);
@@ -143,6 +145,11 @@ pub fn call_of(alloc: Global, item: Item) -> Call
             Call::Writer(writer, WriterCall::SetNumTransfers(count), no_steps(alloc));
         SetWriteTimeout { writer, timeout } =>
             Call::Writer(writer, WriterCall::SetWriteTimeout(timeout), no_steps(alloc));
+        Request { client, body, steps } =>
+            Call::Client(client, ClientCall::Request(body), steps);
+        Response { client, steps } => Call::Client(client, ClientCall::Response, steps);
+        Outstanding { client } =>
+            Call::Client(client, ClientCall::Outstanding, no_steps(alloc));
         ControlIn { target, setup, length, timeout, steps } =>
             Call::Control(ControlCall::In(target, setup, length, timeout), steps);
         ControlOut { target, setup, bytes, timeout, steps } =>

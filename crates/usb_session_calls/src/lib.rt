@@ -7,6 +7,7 @@ mod buffers;
 mod call;
 mod calling;
 mod cancelling;
+mod client_calls;
 mod control_calls;
 mod controlling;
 mod devices;
@@ -27,10 +28,11 @@ mod writer_calls;
 mod writer_settings;
 
 pub use call::{
-    Call, CloseCall, ControlCall, DeviceCall, EndpointCall, FutureCall, InterfaceCall, OpenCall,
-    ReaderCall, TreeCall, WriterCall,
+    Call, ClientCall, CloseCall, ControlCall, DeviceCall, EndpointCall, FutureCall, InterfaceCall,
+    OpenCall, ReaderCall, TreeCall, WriterCall,
 };
 pub use calling::call_of;
+pub use client_calls::call_client;
 pub use control_calls::call_control;
 pub use controlling::bars_control;
 pub use devices::call_device;
