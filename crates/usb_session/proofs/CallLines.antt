@@ -1,6 +1,6 @@
 -- Each call is answered by a line that is not empty.
 use Rattle.std.proofs.Common.{◌≡◌, ◌≢◌, ℕ, Bool, true, false, List, [], ◌∷◌, map, slice_get, length, take, ◌-◌, Option, Some, None, Result, Ok, Err, refl, ap, ◌∙◌, inl, inr, ◌⊎◌}
-use Rattle.std.specs.Prelude.{◌||◌, nat_lt, if◌then◌else◌}
+use Rattle.std.specs.Prelude.{◌||◌, ◌&&◌, nat_lt, if◌then◌else◌}
 use Rattle.std.specs.Option.{option_map}
 use Rattle.std.proofs.lemmas.List.Elements.{All-head}
 use Rattle.futures.specs.declared.task.Poll.{Poll}
@@ -14,6 +14,8 @@ use Rattle.usb_xfer.specs.declared.transfer.TransferData.{TransferData}
 use Rattle.usb_desc.specs.declared.types.Direction.{Direction}
 use Rattle.usb_error.specs.ErrorState.{ErrorState}
 use Rattle.usb_error.specs.Errors.{clear_halt_error, interface_in_use_error}
+use Rattle.usb_error.specs.FaultState.{FaultState}
+use Rattle.usb_error.specs.Faults.{transfer_fault}
 use Rattle.usb_error.specs.Outcomes.{◌>>=◌, result_map}
 use Rattle.usb_error.specs.declared.active.ActiveConfigurationError.{ActiveConfigurationError}
 use Rattle.usb_error.specs.declared.descriptor_error.GetDescriptorError.{GetDescriptorError}
@@ -54,6 +56,15 @@ use Rattle.usb_io.specs.declared.fault.WriteFault.TheVariants as writes
 use Rattle.usb_io.specs.Answered.{Answered}
 use Rattle.usb_io.specs.Writers.{Writing}
 use Rattle.usb_io.specs.Writes as acts
+use Rattle.usb_io.specs.StreamFaults.{read_fault, write_fault}
+use Rattle.usb_msg.specs.declared.error.Ending.{Ending}
+use Rattle.usb_msg.specs.declared.error.Ending.TheVariants as endings
+use Rattle.usb_msg.specs.Errors.{error_of}
+use Rattle.usb_msg.specs.Frames.{tag_in, body_in, has_tag}
+use Rattle.usb_msg.specs.Clients.{ClientState}
+use Rattle.usb_msg.specs.Requests.{Messaging, Message, after_write, frame_written, requested_by, requested}
+use Rattle.usb_msg.specs.Responses.{without_message, by_tag, by_length, responded_by, responded}
+use Rattle.usb_msg.proofs.Responding.{responds}
 use Rattle.usb_script_words.specs.EndpointKinds.{transfer_type_of, direction_of}
 use Rattle.usb_script_words.specs.declared.control.ControlTarget.{ControlTarget}
 use Rattle.usb_script_lines.specs.declared.item.Item.{Item}
@@ -76,6 +87,8 @@ use Rattle.usb_session_tree.specs.Listings.{devices_line}
 use Rattle.usb_session_streams.specs.Faults.{io_line, read_fault_line, write_fault_line}
 use Rattle.usb_session_streams.specs.Reads.{read_line, buffer_line, is_end_line, consumed_end_line}
 use Rattle.usb_session_streams.specs.Writes.{wrote_line}
+use Rattle.usb_session_streams.specs.ClientLines.{message_error_line, tag_line, request_line, body_line, response_line}
+use Rattle.usb_session_streams.specs.ClientNeeds.{bars_request, bars_response}
 use Rattle.usb_session_streams.specs.Needs.{bars_need, bars_call, bars_transfers, write_need, flush_need, finish_need, poll_finish_need}
 use Rattle.usb_session_streams.specs.Told.{with_calls, failures_of}
 use Rattle.usb_session_streams.specs.Printed.{written_line, flushed_line, poll_line, submitted_to}
@@ -98,9 +111,11 @@ use Rattle.usb_session_calls.specs.declared.call.ReaderCall.{ReaderCall}
 use Rattle.usb_session_calls.specs.declared.call.ReaderCall.TheVariants as readers
 use Rattle.usb_session_calls.specs.declared.call.WriterCall.{WriterCall}
 use Rattle.usb_session_calls.specs.declared.call.WriterCall.TheVariants as writers
+use Rattle.usb_session_calls.specs.declared.call.ClientCall.{ClientCall}
+use Rattle.usb_session_calls.specs.declared.call.ClientCall.TheVariants as clients
 use Rattle.usb_session_calls.specs.declared.call.ControlCall.{ControlCall}
 use Rattle.usb_session_calls.specs.declared.call.ControlCall.TheVariants as controls
-use Rattle.usb_session_calls.specs.State.{State, Endpoint, Reader, Writer, tickets_of, with_host}
+use Rattle.usb_session_calls.specs.State.{State, Endpoint, Reader, Writer, Client, tickets_of, with_host}
 use Rattle.usb_session_calls.specs.Answer.{Answer, answer_with, condition_answer, ok_answer, error_answer, at_host, if_open}
 use Rattle.usb_session_calls.specs.Steps.{with_steps, stepped_all}
 use Rattle.usb_session_calls.specs.Calls.{call_of, answers_control}
@@ -122,6 +137,9 @@ use Rattle.usb_session_calls.specs.CalledReaders.{reader_called, on_reader}
 use Rattle.usb_session_calls.specs.Writers.{with_transfers, with_writer, writer_on, writer_answer, without_writer, writer_inner_answer, closed_writer, close_writer_answer}
 use Rattle.usb_session_calls.specs.Writes.{writing_at, left_by_writer, called_as, write_on, flush_as, finish_as}
 use Rattle.usb_session_calls.specs.CalledWriters.{writer_called, on_writer}
+use Rattle.usb_session_calls.specs.Clients.{is_idle, with_client, client_on, client_answer, closed_client, close_client_answer}
+use Rattle.usb_session_calls.specs.Messages.{messaging_at, request_as, response_as}
+use Rattle.usb_session_calls.specs.CalledClients.{client_called, on_client}
 use Rattle.usb_session_calls.specs.Controls.{device_of_target, bars_control, request_for, request_with}
 use Rattle.usb_session.specs.Listings.{listed, list_answer, listed_buses, buses_answer}
 use Rattle.usb_session.specs.Probes.{probed, probe_answer, looked_for, match_answer}
@@ -137,7 +155,8 @@ use Rattle.usb_session.specs.Answers.{answer}
 use Rattle.usb_session.specs.Output.{start, behind}
 use Rattle.usb_session.specs.ControlAnswers.{ControlAnswer, told_of, listed as tickets_listed, answered_future, future_gone, answered_by}
 use Rattle.usb_session.specs.Served.{control_ticket_by}
-use Rattle.usb_session.proofs.HandleLemmas.{inv-start, inv-of}
+use Rattle.usb_session.proofs.HandleLemmas.{inv-start, inv-of, scripts-go_on}
+use Rattle.usb_session.proofs.ClientEnds.{IsTold, AllTell, tell-behind}
 use Rattle.usb_session.proofs.ControlCame.{Came, Tells, answer-tells}
 use Rattle.usb_session.proofs.ControlsLaw.{none-await, await-behind}
 
@@ -248,7 +267,7 @@ start_answer-speaks state n target request timeout =
     (bar-speaks state (bars_control state.host.kernel.past) (ok_answer (with_future state n request timeout device)) refl))
 
 on_open-speaks : (state : State) (call : OpenCall) → Speaks (on_open state call)
-unfolding open_answer open_path_answer clone_device_answer claim_answer clone_interface_answer endpoint_answer reader_answer inner_answer writer_answer writer_inner_answer
+unfolding open_answer open_path_answer clone_device_answer claim_answer clone_interface_answer endpoint_answer reader_answer inner_answer writer_answer writer_inner_answer client_answer
 on_open-speaks state (opens.Device d bus address) = free-speaks state (is_free state.devices d) (opened_at state d bus address) (opened_at-speaks state d bus address)
 on_open-speaks state (opens.Path d path) = free-speaks state (is_free state.devices d) (opened_probed state d (probe state.tree path)) (opened_probed-speaks state d (probe state.tree path))
 on_open-speaks state (opens.CloneDevice name d) =
@@ -274,6 +293,10 @@ on_open-speaks state (opens.Writer w e size) =
 on_open-speaks state (opens.WriterInner e w) =
     named-speaks state (named state.writers w) (λ x. if is_free state.endpoints e then ok_answer (without_writer state e w x) else condition_answer state)
     (λ x. free-speaks state (is_free state.endpoints e) (ok_answer (without_writer state e w x)) refl)
+on_open-speaks state (opens.Client m a b) =
+    named-speaks state (named state.endpoints a) (λ out. if_open (named state.endpoints b) (client_on state m a b out) (condition_answer state))
+    (λ out. named-speaks state (named state.endpoints b) (client_on state m a b out)
+    (λ inp. free-speaks state (is_free state.clients m && (is_idle Out out.state && is_idle In inp.state)) (ok_answer (with_client state m a b out inp)) refl))
 on_open-speaks state (opens.ControlIn n target setup wanted timeout) = start_answer-speaks state n target (request_for setup wanted) timeout
 on_open-speaks state (opens.ControlOut n target setup bytes timeout) = start_answer-speaks state n target (request_with setup bytes) timeout
 
@@ -283,13 +306,14 @@ unfolding error_line
 release_on-speaks state i x = either-speaks (is_shared state.host x.handle.key x.claimed) (error_answer state interface_in_use_error) (ok_answer (without_interface state i x.handle)) refl refl
 
 on_close-speaks : (state : State) (call : CloseCall) → Speaks (on_close state call)
-unfolding close_device_answer close_interface_answer release_answer close_answer close_reader_answer close_writer_answer close_future_answer
+unfolding close_device_answer close_interface_answer release_answer close_answer close_reader_answer close_writer_answer close_client_answer close_future_answer
 on_close-speaks state (closes.Device d) = named-speaks state (named state.devices d) (λ key. ok_answer (without_device state d key)) (λ key. refl)
 on_close-speaks state (closes.Interface i) = named-speaks state (named state.interfaces i) (λ f. ok_answer (without_interface state i f)) (λ f. refl)
 on_close-speaks state (closes.Release i) = named-speaks state (interface_at state i) (release_on state i) (release_on-speaks state i)
 on_close-speaks state (closes.Endpoint e) = named-speaks state (named state.endpoints e) (λ h. ok_answer (without_endpoint state e h)) (λ h. refl)
 on_close-speaks state (closes.Reader r) = named-speaks state (named state.readers r) (λ x. ok_answer (closed_reader state r x)) (λ x. refl)
 on_close-speaks state (closes.Writer w) = named-speaks state (named state.writers w) (λ x. ok_answer (closed_writer state w x)) (λ x. refl)
+on_close-speaks state (closes.Client m) = named-speaks state (named state.clients m) (λ x. ok_answer (closed_client state m x)) (λ x. refl)
 on_close-speaks state (closes.Future n) = named-speaks state (named state.futures n) (λ f. ok_answer (without_future state n f)) (λ f. refl)
 
 -- calls on open devices and claimed interfaces
@@ -471,6 +495,62 @@ writer_called-speaks state w writers.PollFlushEnd x =
 writer_called-speaks state w (writers.SetNumTransfers n) x = bar-speaks state (bars_transfers n) (ok_answer (record state { writers = change_named (with_transfers n) state.writers w })) refl
 writer_called-speaks state w (writers.SetWriteTimeout timeout) x = refl
 
+-- on clients. A client that has ended tells why, which is not want of memory
+io-speaks : (fault : FaultState) → has_line (io_line fault) ≡ true
+unfolding io_line
+io-speaks fault = refl
+
+ending-speaks : (why : Ending) → Some why ≢ Some endings.Memory → has_line (message_error_line (error_of why)) ≡ true
+ending-speaks (endings.Short len) told = refl
+ending-speaks endings.TooLong told = refl
+ending-speaks (endings.WrongTag expected got) told = refl
+ending-speaks (endings.Transfer e) told = io-speaks (transfer_fault e)
+ending-speaks endings.Memory told = absurd (told refl)
+
+tag-speaks : (tag : ℕ) → has_line (tag_line tag) ≡ true
+unfolding tag_line
+tag-speaks tag = refl
+
+body-speaks : (body : List ℕ) → has_line (body_line body) ≡ true
+unfolding body_line
+body-speaks body = refl
+
+after-speaks : (c : ClientState) (r : Result ℕ WriteFault) (v : Writing HostState) → has_line (request_line (after_write host_calls c r v).answer) ≡ true
+after-speaks c (Ok n) v = tag-speaks c.requests
+after-speaks c (Err fault) v = io-speaks (write_fault fault)
+
+request-speaks : (body : List ℕ) (why : Option Ending) (w : Messaging HostState) → IsTold why → has_line (request_line (requested_by host_calls body why w).answer) ≡ true
+request-speaks body (Some why) w told = ending-speaks why told
+request-speaks body None w told = let a = frame_written host_calls body w in after-speaks w.client a.answer a.left
+
+by_tag-speaks : (b : Bool) (message : List ℕ) (c : ClientState) → has_line (response_line (by_tag b message c).answer) ≡ true
+by_tag-speaks true message c = body-speaks (body_in message)
+by_tag-speaks false message c = ending-speaks (endings.WrongTag c.responses (tag_in message)) (λ same. absurd (cc))
+
+by_length-speaks : (b : Bool) (message : List ℕ) (c : ClientState) → has_line (response_line (by_length b message c).answer) ≡ true
+by_length-speaks true message c = ending-speaks (endings.Short (length message)) (λ same. absurd (cc))
+by_length-speaks false message c = by_tag-speaks (has_tag c.responses message) message c
+
+response-speaks : (why : Option Ending) (w : Messaging HostState) → IsTold why → has_line (response_line (responded_by host_calls why w).answer) ≡ true
+response-speaks (Some why) w told = ending-speaks why told
+response-speaks None w told =
+    responds host_calls (λ (v : Messaging HostState). Unit {0}) (λ v is_few so_far. tt) (λ (a : Message (List ℕ) HostState). has_line (response_line a.answer) ≡ true)
+    (λ v end so_far. by_length-speaks (nat_lt (length v.client.frame) 4) v.client.frame (without_message v.client)) (λ v so_far. ending-speaks endings.TooLong (λ same. absurd (cc))) (λ v fault so_far. io-speaks (read_fault fault)) w tt
+
+client_called-speaks : (state : State) (m : ℕ) (call : ClientCall) (x : Client) → IsTold x.state.ended → Speaks (client_called call state m x)
+unfolding count_line
+client_called-speaks state m (clients.Request body) x told =
+    let w = messaging_at state x in
+    bar-speaks state (bars_request body w) (request_as state m body (requested host_calls body w)) (request-speaks body x.state.ended w told)
+client_called-speaks state m clients.Response x told =
+    let w = messaging_at state x in
+    bar-speaks state (bars_response w) (response_as state m (responded host_calls w)) (response-speaks x.state.ended w told)
+client_called-speaks state m clients.Outstanding x told = refl
+
+open-speaks : {X : Type 0} (state : State) (o : Option X) (call : X → Answer) → ((x : X) → o ≡ Some x → Speaks (call x)) → Speaks (if_open o call (condition_answer state))
+open-speaks state None call says = refl
+open-speaks state (Some x) call says = says x refl
+
 -- what a control transfer tells of its completion
 failed-speaks : (error : TransferError) → has_line (failed_line error) ≡ true
 unfolding failed_line
@@ -534,24 +614,26 @@ is_silent (calls.Steps steps) = true
 is_silent call = false
 
 -- each other call but those of control transfers
-call-speaks : (state : State) (call : Call) → is_silent call ≡ false → answers_control call ≡ false → Speaks (call_answer state call)
-unfolding call_answer now_line on_device on_interface on_endpoint on_reader on_writer
-call-speaks state calls.Setup silent other = absurd (cc)
-call-speaks state (calls.Steps steps) silent other = absurd (cc)
-call-speaks state calls.Now silent other = refl
-call-speaks state (calls.Tree call) silent other = on_tree-speaks state call
-call-speaks state (calls.Open call) silent other = on_open-speaks state call
-call-speaks state (calls.Close call) silent other = on_close-speaks state call
-call-speaks state (calls.Device d call) silent other = named-speaks state (device_at state d) (λ x. at_host state (device_called call state.host x)) (device_called-speaks state call)
-call-speaks state (calls.Interface i call) silent other = named-speaks state (interface_at state i) (λ x. at_host state (interface_called call state.host x)) (interface_called-speaks state call)
-call-speaks state (calls.Endpoint e call steps) silent other =
+call-speaks : (state : State) (call : Call) → AllTell state → is_silent call ≡ false → answers_control call ≡ false → Speaks (call_answer state call)
+unfolding call_answer now_line on_device on_interface on_endpoint on_reader on_writer on_client
+call-speaks state calls.Setup tells silent other = absurd (cc)
+call-speaks state (calls.Steps steps) tells silent other = absurd (cc)
+call-speaks state calls.Now tells silent other = refl
+call-speaks state (calls.Tree call) tells silent other = on_tree-speaks state call
+call-speaks state (calls.Open call) tells silent other = on_open-speaks state call
+call-speaks state (calls.Close call) tells silent other = on_close-speaks state call
+call-speaks state (calls.Device d call) tells silent other = named-speaks state (device_at state d) (λ x. at_host state (device_called call state.host x)) (device_called-speaks state call)
+call-speaks state (calls.Interface i call) tells silent other = named-speaks state (interface_at state i) (λ x. at_host state (interface_called call state.host x)) (interface_called-speaks state call)
+call-speaks state (calls.Endpoint e call steps) tells silent other =
     let now = with_steps state steps in named-speaks now (named now.endpoints e) (endpoint_called call now e) (endpoint_called-speaks now e call)
-call-speaks state (calls.Reader r call steps) silent other =
+call-speaks state (calls.Reader r call steps) tells silent other =
     let now = with_steps state steps in named-speaks now (named now.readers r) (reader_called call now r) (reader_called-speaks now r call)
-call-speaks state (calls.Writer w call steps) silent other =
+call-speaks state (calls.Writer w call steps) tells silent other =
     let now = with_steps state steps in named-speaks now (named now.writers w) (writer_called call now w) (writer_called-speaks now w call)
-call-speaks state (calls.Control call steps) silent other = absurd (cc)
-call-speaks state (calls.Future n call) silent other = absurd (cc)
+call-speaks state (calls.Client m call steps) tells silent other =
+    let now = with_steps state steps in open-speaks now (named now.clients m) (client_called call now m) (λ x at. client_called-speaks now m call x (tells m x at))
+call-speaks state (calls.Control call steps) tells silent other = absurd (cc)
+call-speaks state (calls.Future n call) tells silent other = absurd (cc)
 
 -- and those
 control-speaks : (state : State) (call : Call) (a : Answer) → answers_control call ≡ true → Tells a (answered_by state call a) → Speaks a
@@ -585,7 +667,7 @@ line-speaks items before line is true yes_ =
     control-speaks state (call_of line) (answer state line) yes_ (answer-tells state line (inv-of items before) (await-behind (start items) before (inv-start items) (none-await items)) yes_)
 line-speaks items before line is false no_ =
     let state = behind (start items) before in
-    answer-speaks state line (call-speaks state (call_of line) (call_of-speaks line is) no_)
+    answer-speaks state line (call-speaks state (call_of line) (tell-behind scripts-go_on items before) (call_of-speaks line is) no_)
 
 some-line : (l : List ℕ) → has_line l ≡ true → l ≢ []
 some-line [] is = absurd (cc)

@@ -1,18 +1,21 @@
--- An endpoint is taken out of its name and closed, or a reader or a writer with its endpoint.
-use Rattle.std.proofs.Common.{◌≡◌, ℕ, arith, List, [], ◌∷◌, ◌+◌, ◌++◌, length, length-append, Option, Some, None, Bool, true, false, refl, ap, sym, ◌∙◌}
-use Rattle.std.specs.Prelude.{◌==◌}
+-- An endpoint is taken out of its name and closed, or a reader or a writer with its endpoint, or a client with both.
+use Rattle.std.proofs.Common.{◌≡◌, ℕ, arith, List, [], ◌∷◌, ◌+◌, ◌++◌, ◌≢◌, length, length-append, Option, Some, None, Bool, true, false, refl, ap, sym, ◌∙◌}
+use Rattle.std.specs.Prelude.{◌==◌, option_and_then}
 use Rattle.std.specs.Option.{option_map}
-use Rattle.std.proofs.lemmas.Bool.{cond_both, eq-eqb}
+use Rattle.std.proofs.lemmas.Bool.{cond_both, eq-eqb, eqb-true}
+use Rattle.std.proofs.lemmas.Option.{same_Some}
 use Rattle.usb_device_endpoint.specs.BusState.{BusState, without_key}
 use Rattle.usb_kernel_devices.specs.declared.step.KernelStep.{KernelStep}
 use Rattle.usb_kernel.specs.Extends.{Extends}
 use Rattle.usb_device_host.proofs.ClaimFrames.{goes-trans}
 use Rattle.usb_device_ledger.proofs.DeviceLemmas.{counts-same}
 use Rattle.usb_device_endpoint.specs.EndpointState.{EndpointState}
-use Rattle.usb_device_endpoint.specs.Handles.{KeepsOthers}
+use Rattle.usb_device_endpoint.specs.Handles.{AreHeld, Stands, KeepsOthers}
+use Rattle.usb_device_endpoint.proofs.Frames.{Stands-other, keeps_others}
 use Rattle.usb_device_endpoint.specs.Closes.{all_discarded, all_abandoned, after_close}
 use Rattle.usb_device_host.specs.HostState.{HostState}
-use Rattle.usb_device_host.specs.HostBus.{bus_of, key_at}
+use Rattle.usb_device_ledger.specs.Entries.{Hold, HostTicket}
+use Rattle.usb_device_host.specs.HostBus.{bus_of, held_as, key_at, owner_at}
 use Rattle.usb_device_host.specs.HostFrames.{LineGoesOn}
 use Rattle.usb_device_host.specs.HostCalls.{host_discarded, host_left, host_calls}
 use Rattle.usb_device_host.specs.TicketEnds.{host_abandoned}
@@ -20,24 +23,29 @@ use Rattle.usb_device_host.proofs.CallFrames.{keeps-open, keeps-abandoned, line-
 use Rattle.usb_device_host.proofs.WaitFrames.{line-keeps, line-trans}
 use Rattle.usb_io.specs.Readers.{ReaderState}
 use Rattle.usb_io.specs.Writers.{WriterState}
+use Rattle.usb_msg.specs.Clients.{ClientState, StandBoth}
 use Rattle.usb_session_calls.specs.Names.{named, freed}
 use Rattle.usb_session_calls.specs.EndpointNames.{EndpointName, Own, OfReader, OfWriter}
 use Rattle.usb_session_calls.specs.State.{State}
 use Rattle.usb_session_calls.specs.Closes.{closed}
 use Rattle.usb_session_calls.specs.Readers.{reader_closed}
 use Rattle.usb_session_calls.specs.Writers.{writer_closed}
+use Rattle.usb_session_calls.specs.Clients.{client_closed}
 use Rattle.usb_session_calls.specs.SessionState.{SessionState, IsSound, open_under}
 use Rattle.usb_session_calls.specs.Relation.{Represents}
 use Rattle.usb_session_calls.proofs.Answering.{host_is}
-use Rattle.usb_session_calls.proofs.Called.{KeepsSession, with_open, sound-gone, represents-freed, represents-reader_freed, represents-writer_freed, endpoints_kept, readers_kept, writers_kept}
+use Rattle.usb_session_calls.proofs.Called.{KeepsSession, with_open, sound-gone, represents-freed, represents-reader_freed, represents-writer_freed, represents-client_freed, endpoints_kept, readers_kept, writers_kept, clients_kept}
+use Rattle.usb_session_calls.proofs.ClientNames.{client-stands, closed-sound as clients-closed-sound}
+use Rattle.usb_session_calls.proofs.FutureSessions.{LeavesKey}
 use Rattle.usb_session_calls.proofs.EndpointNameLemmas.{freed-changes}
 use Rattle.usb_session_calls.proofs.NameLemmas.{freed-none}
 use Rattle.usb_session_calls.proofs.NamedKeys.{OpensNone, none-goes}
 use Rattle.usb_session_calls.proofs.SubmitCode.{line-all_discarded}
 use Rattle.usb_session.proofs.KeptNames.{kept-at, kept-none}
-use Rattle.usb_session.proofs.Replaced.{Replaces, reader_endpoint, writer_endpoint, own-replaces, reader-replaces, writer-replaces}
-use Rattle.usb_session.proofs.OrderLemmas.{before-past, left-past}
-use Rattle.usb_session_streams.proofs.AccountLemmas.{of-is, of-closed}
+use Rattle.usb_session.proofs.Replaced.{Replaces, reader_endpoint, writer_endpoint, client_writer_endpoint, client_reader_endpoint, own-replaces, reader-replaces, writer-replaces}
+use Rattle.usb_session.proofs.OrderLemmas.{before-past, left-past, left-apart}
+use Rattle.usb_session.proofs.TimesLemmas.{times, one-apart}
+use Rattle.usb_session_streams.proofs.AccountLemmas.{of-is, of-closed, key-goes}
 
 line-all_abandoned : (h : HostState) (ts : List ℕ) → LineGoesOn h (all_abandoned host_abandoned h ts)
 line-all_abandoned h [] = line-keeps h h (keeps-open h)
@@ -93,10 +101,53 @@ closed-spare h now e idle bus =
     let none : length before.front + length (before_left h e).steps ≡ 0 = sym (length-append before.front (before_left h e).steps) ∙ ap length (sym before.steps ∙ idle) in
     ap (λ (g : HostState). g.kernel.spare) bus ∙ (line-left (before_left h e) e.key).spare ∙ omega (arith, before.spare, none)
 
+-- what endpoints of other keys hold has not ended
+held-apart : (owner : ℕ → Option ℕ) (key k : ℕ) (ts : List ℕ) (u : ℕ) → AreHeld owner key ts → owner u ≡ Some k → k ≢ key → times u ts ≡ 0
+held-apart owner key k [] u held own other = refl
+held-apart owner key k (t ∷ ts) u held own other =
+    let apart : t ≢ u = λ same. other (same_Some k key (sym own ∙ ap owner (sym same) ∙ held.0)) in
+    let first = one-apart u t apart in
+    let rest = held-apart owner key k ts u held.2 own other in omega arith
+
+kept-key : (keys : ℕ → Bool) (key k : ℕ) → k ≢ key → keys k ≡ true → without_key keys key k ≡ true
+kept-key keys key k other is = cond_both (key == k) false (keys k) (λ b. b ≡ true) (λ same. absurd (other (sym (eqb-true key k same)))) (λ no_. is)
+
+others-closed : (h : HostState) (e : EndpointState) → Stands (bus_of h) e → KeepsOthers (bus_of h) (bus_of (after_close host_calls h e)) e.key
+others-closed h e stands =
+    let before = before_left h e in
+    keeps_others (bus_of h) (bus_of (after_close host_calls h e)) e.key
+    (λ u k other own. ap (λ (o : Option HostTicket). option_map (λ (hold : Hold). hold.key) (option_and_then held_as o)) (left-apart h e u (held-apart (owner_at h.tickets) e.key k e.pending u stands.held own other)) ∙ own)
+    (λ k other is. left-key before e.key k ∙ kept-key (key_at before.endpoints) e.key k other (key-goes h.endpoints before.endpoints k (line-before_left h e).endpoints is))
+
+pub closed-leaves : (h : HostState) (e : EndpointState) → h.steps ≡ [] → Stands (bus_of h) e → LeavesKey h (after_close host_calls h e) e.key e.pending
+closed-leaves h e idle stands =
+    record {
+      session = keeps-closed h e idle;
+      others = others-closed h e stands;
+      none = none-closed h e;
+      closed = key-closed h e;
+      accounts = of-closed h e stands.key_is_open;
+    }
+
+-- so two of them are closed, one after the other
+pub both-leave : (h : HostState) (x : ClientState) → h.steps ≡ [] → StandBoth (bus_of h) x
+    → LeavesKey h (after_close host_calls h x.writer.endpoint) x.writer.endpoint.key x.writer.endpoint.pending
+    × LeavesKey (after_close host_calls h x.writer.endpoint) (after_close host_calls (after_close host_calls h x.writer.endpoint) x.reader.endpoint) x.reader.endpoint.key x.reader.endpoint.pending
+both-leave h x idle stand =
+    let mid = after_close host_calls h x.writer.endpoint in
+    let first = closed-leaves h x.writer.endpoint idle stand.out in
+    (first, closed-leaves mid x.reader.endpoint first.session.idle (Stands-other (bus_of h) (bus_of mid) x.writer.endpoint.key x.reader.endpoint first.others (λ same. stand.apart (sym same)) stand.inp))
+
+pub both-spare : (h now : HostState) (x : ClientState) → h.steps ≡ [] → StandBoth (bus_of h) x → now ≡ after_close host_calls (after_close host_calls h x.writer.endpoint) x.reader.endpoint → now.kernel.spare ≡ h.kernel.spare
+both-spare h now x idle stand bus =
+    let mid = after_close host_calls h x.writer.endpoint in
+    let leaves = both-leave h x idle stand in
+    closed-spare mid now x.reader.endpoint leaves.0.session.idle bus ∙ closed-spare h mid x.writer.endpoint idle refl
+
 -- the session in which the endpoint of a name was closed
-sound-closed_under : (s : SessionState) (now : HostState) (es : List (Option EndpointState)) (rs : List (Option ReaderState)) (ws : List (Option WriterState)) (e : EndpointName) (x : EndpointState) → IsSound s → open_under s e ≡ Some x → Replaces s es rs ws e None → now ≡ after_close host_calls s.host x → KeepsOthers (bus_of s.host) (bus_of now) x.key → IsSound (with_open s now es rs ws)
+sound-closed_under : (s : SessionState) (now : HostState) (es : List (Option EndpointState)) (rs : List (Option ReaderState)) (ws : List (Option WriterState)) (e : EndpointName) (x : EndpointState) → IsSound s → open_under s e ≡ Some x → Replaces s es rs ws s.clients e None → now ≡ after_close host_calls s.host x → KeepsOthers (bus_of s.host) (bus_of now) x.key → IsSound (with_open s now es rs ws s.clients)
 sound-closed_under s now es rs ws e x sound was gone bus others =
-    sound-gone s now es rs ws e x sound was gone.counts (rw bus (keeps-closed s.host x sound.idle)) others
+    sound-gone s now es rs ws s.clients e x sound was gone.counts (rw bus (keeps-closed s.host x sound.idle)) others
     (rw bus (none-closed s.host x))
     gone.changed (ap (λ (g : HostState). key_at g.endpoints x.key) bus ∙ key-closed s.host x)
     (of-is s.host (after_close host_calls s.host x) now x.key x.pending [] [] bus refl (of-closed s.host x (sound.endpoints_stand e x was).key_is_open))
@@ -165,3 +216,26 @@ module _ (s S : SessionState) (now : HostState) (n : ℕ) (sound : IsSound s) (v
     none-writer_represents none state r =
         let here = view ∙ r in
         rw (kept-none _ _ _ (writers_kept s state here) n none, rest, freed-none s.writers n none) here
+
+  -- a client, with both endpoints
+  module _ (mid : List (Option ClientState)) (rest : mid ≡ freed s.clients n) where
+    pub client-sound : (x : ClientState) → named s.clients n ≡ Some x → now ≡ after_close host_calls (after_close host_calls s.host x.writer.endpoint) x.reader.endpoint → IsSound (record s { host = now; clients = mid })
+    client-sound x was bus =
+        let leaves = both-leave s.host x sound.idle (client-stands s n x sound was) in
+        rw (rest, bus) (clients-closed-sound s (after_close host_calls s.host x.writer.endpoint) (after_close host_calls (after_close host_calls s.host x.writer.endpoint) x.reader.endpoint) n x was sound leaves.0 leaves.1)
+
+    pub client-represents : (x : ClientState) → named s.clients n ≡ Some x → now ≡ after_close host_calls (after_close host_calls s.host x.writer.endpoint) x.reader.endpoint → (state : State) → Represents S state → Represents (record s { host = now; clients = mid }) (client_closed state n)
+    unfolding client_closed
+    client-represents x was bus state r =
+        let here = view ∙ r in
+        let k = kept-at _ _ _ (clients_kept s state here) n x was in
+        let first : after_close host_calls s.host x.writer.endpoint ≡ after_close host_calls state.host k.entry.state.writer.endpoint = closed-host s state (after_close host_calls s.host x.writer.endpoint) k.entry.state.writer.endpoint x.writer.endpoint here (ap client_writer_endpoint k.same) refl in
+        let host : now ≡ after_close host_calls (after_close host_calls state.host k.entry.state.writer.endpoint) k.entry.state.reader.endpoint =
+        bus ∙ ap (λ (g : HostState). after_close host_calls g x.reader.endpoint) first ∙ ap (after_close host_calls (after_close host_calls state.host k.entry.state.writer.endpoint)) (sym (ap client_reader_endpoint k.same)) in
+        rw (k.is, rest, ← host) (represents-client_freed s state now n here)
+
+    pub none-client_represents : named s.clients n ≡ None → (state : State) → Represents S state → Represents (record s { clients = mid }) (client_closed state n)
+    unfolding client_closed
+    none-client_represents none state r =
+        let here = view ∙ r in
+        rw (kept-none _ _ _ (clients_kept s state here) n none, rest, freed-none s.clients n none) here

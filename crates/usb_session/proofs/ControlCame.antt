@@ -58,6 +58,7 @@ use Rattle.usb_session.specs.ControlAnswers.{ControlAnswer, told_of, listed, fut
 use Rattle.usb_session.specs.ClosedFutures.{ClosedFuture, future_closed_as, future_closed_by}
 use Rattle.usb_session.proofs.OrderLemmas.{IsTaken, IsHeld, held-stays, stays-keeps, LeavesTickets, WasGiven, given-goes, taken-goes}
 use Rattle.usb_session.proofs.PrintLemmas.{transfer-stays, mapped-some, not_more, one_more}
+use Rattle.usb_session.proofs.Views.{view_of}
 use Rattle.usb_session.proofs.Does.{Quiet, quiet-lent, quiet-stepped}
 use Rattle.usb_session.proofs.EndpointLines.{some-of}
 use Rattle.usb_session.proofs.StepLemmas.{Inv, step-quiet}
@@ -223,7 +224,7 @@ answer-with h f t has = ap (λ o. option_map (control_answer f.direction) (optio
 abbrev future_told : State → ℕ → Option FutureState → Answer → List ControlAnswer
 future_told state n o a = answered_future a.line (gone_if (is_free a.state.futures n) o)
 
-future_polled-tells : (state : State) (n : ℕ) (f : FutureState) (o : Option (Result (List ℕ) TransferError)) → Inv state → AllAwait state → named state.futures n ≡ Some f → future_answer state.host f ≡ o
+future_polled-tells : (state : State) (n : ℕ) (f : FutureState) (o : Option (Result (List ℕ) TransferError)) → Inv (view_of state) → AllAwait (view_of state) → named state.futures n ≡ Some f → future_answer state.host f ≡ o
     → Tells (future_polled state n f o) (future_told state n (Some f) (future_polled state n f o))
 future_polled-tells state n f None inv all here none =
     tells-none (answer_with state pending_line) _ (rw (open-not_free state.futures n f here) refl) (inr refl)
@@ -233,7 +234,7 @@ future_polled-tells state n f (Some r) inv all here some =
     let d = mapped-some (control_answer f.direction) (transfer_completion state.host.kernel.past t) r (sym (answer-with state.host f t awaits.is) ∙ some) in
     future-tells state n f (future_polled state n f (Some r)) state.host t d.0 awaits.is (freed-free state.futures n f here) (inv.waits n f t here awaits.is) d.1 (ap received_line (sym d.2)) (on-same (future_taken state.host f))
 
-future_waited-tells : (state : State) (n : ℕ) (f : FutureState) → Inv state → AllAwait state → named state.futures n ≡ Some f → Tells (future_waited state n f) (future_told state n (Some f) (future_waited state n f))
+future_waited-tells : (state : State) (n : ℕ) (f : FutureState) → Inv (view_of state) → AllAwait (view_of state) → named state.futures n ≡ Some f → Tells (future_waited state n f) (future_told state n (Some f) (future_waited state n f))
 future_waited-tells state n f inv all here =
     let awaits = all n f here in
     let t = awaits.ticket in
@@ -252,7 +253,7 @@ named-tells state n call tells = by (named state.futures n) refl
     by None here = tells-none (condition_answer state) _ (answered-none condition_line (is_free state.futures n)) (inl refl)
     by (Some f) here = tells f here
 
-on_future-tells : (state : State) (n : ℕ) (call : FutureCall) → Inv state → AllAwait state → Tells (on_future state n call) (future_told state n (named state.futures n) (on_future state n call))
+on_future-tells : (state : State) (n : ℕ) (call : FutureCall) → Inv (view_of state) → AllAwait (view_of state) → Tells (on_future state n call) (future_told state n (named state.futures n) (on_future state n call))
 unfolding on_future
 on_future-tells state n Poll inv all =
     named-tells state n (λ f. future_polled state n f (future_answer state.host f)) (λ f here. future_polled-tells state n f (future_answer state.host f) inv all here refl)
@@ -260,7 +261,7 @@ on_future-tells state n (Wait steps) inv all =
     let now = with_steps state steps in
     let over = quiet-lent state steps in
     rest-tells (if_open (named now.futures n) (future_waited now n) (condition_answer now)) _
-    (named-tells now n (future_waited now n) (λ f here. future_waited-tells now n f (step-quiet inv over).inv (parting-same state now over.futures over.keeps.past all).awaits here))
+    (named-tells now n (future_waited now n) (λ f here. future_waited-tells now n f (step-quiet inv over).inv (parting-same (view_of state) (view_of now) over.futures over.keeps.past all).awaits here))
 
 -- a future is closed
 abbrev pub Gave : HostState → ClosedFuture → Type 0
@@ -287,7 +288,7 @@ gave-none h past false = All-nil (Gave h)
 abbrev future_left : State → ℕ → Option FutureState → State
 future_left state n o = (if_open o (λ f. ok_answer (without_future state n f)) (condition_answer state)).state
 
-close-gives : (state : State) (n : ℕ) → Inv state
+close-gives : (state : State) (n : ℕ) → Inv (view_of state)
     → All (Gave (close_future_answer state n).state.host) (future_closed_as state.host.kernel.past (gone_if (is_free (close_future_answer state n).state.futures n) (named state.futures n)))
 unfolding close_future_answer
 close-gives state n inv = by (named state.futures n) refl
@@ -297,11 +298,11 @@ close-gives state n inv = by (named state.futures n) refl
     by (Some f) here = rw (freed-free state.futures n f here) (closed-gives state.host f (λ t is. inv.waits n f t here is))
 
 -- at the end of the session
-closed_at-gives : (state : State) (n : ℕ) (o : Option FutureState) → named state.futures n ≡ o → Inv state → All (Gave (future_closed_at state n o).host) (future_closed_as state.host.kernel.past o)
+closed_at-gives : (state : State) (n : ℕ) (o : Option FutureState) → named state.futures n ≡ o → Inv (view_of state) → All (Gave (future_closed_at state n o).host) (future_closed_as state.host.kernel.past o)
 closed_at-gives state n None here inv = All-nil (Gave state.host)
 closed_at-gives state n (Some f) here inv = closed-gives state.host f (λ t is. inv.waits n f t here is)
 
-pub closed_under-gives : (state : State) (n : ℕ) → Inv state → All (Gave (future_closed_under state n).host) (future_closed_as state.host.kernel.past (named state.futures n))
+pub closed_under-gives : (state : State) (n : ℕ) → Inv (view_of state) → All (Gave (future_closed_under state n).host) (future_closed_as state.host.kernel.past (named state.futures n))
 unfolding future_closed_under
 closed_under-gives state n inv = closed_at-gives state n (named state.futures n) refl inv
 
@@ -339,18 +340,18 @@ both-parted state (Close (closes.Future n)) a = future-given state.host.kernel.p
 both-parted state call a = refl
 
 -- what the answer of a call tells of control transfers, and what it gives up
-call-tells : (state : State) (call : Call) → Inv state → AllAwait state → answers_control call ≡ true → Tells (call_answer state call) (answered_by state call (call_answer state call))
+call-tells : (state : State) (call : Call) → Inv (view_of state) → AllAwait (view_of state) → answers_control call ≡ true → Tells (call_answer state call) (answered_by state call (call_answer state call))
 unfolding call_answer
 call-tells state (Control call steps) inv all is = control-tells call state steps inv.count
 call-tells state (Future n call) inv all is = on_future-tells state n call inv all
 call-tells state call inv all is = absurd (cc)
 
-call-came : (state : State) (call : Call) → Inv state → AllAwait state → All (Came (call_answer state call).state.host) (answered_by state call (call_answer state call))
+call-came : (state : State) (call : Call) → Inv (view_of state) → AllAwait (view_of state) → All (Came (call_answer state call).state.host) (answered_by state call (call_answer state call))
 call-came state (Control call steps) inv all = (call-tells state (Control call steps) inv all refl).each
 call-came state (Future n call) inv all = (call-tells state (Future n call) inv all refl).each
 call-came state call inv all = All-nil (Came (call_answer state call).state.host)
 
-call-gives : (state : State) (call : Call) → Inv state → All (Gave (call_answer state call).state.host) (future_closed_by state call (call_answer state call))
+call-gives : (state : State) (call : Call) → Inv (view_of state) → All (Gave (call_answer state call).state.host) (future_closed_by state call (call_answer state call))
 unfolding call_answer
 call-gives state (Close (closes.Future n)) inv = close-gives state n inv
 call-gives state call inv = All-nil (Gave (call_answer state call).state.host)
@@ -368,37 +369,37 @@ none-second : {X : Type 0} (xs ys : List X) → xs ++ ys ≡ [] → ys ≡ []
 none-second [] ys none = none
 none-second (x ∷ xs) ys none = absurd (cc)
 
-quiet-none : (state : State) (call : Call) (a : Answer) → Quiet state a.state → both_by state call a ≡ []
+quiet-none : (state : State) (call : Call) (a : Answer) → Quiet (view_of state) (view_of a.state) → both_by state call a ≡ []
 quiet-none state call a quiet = both-parted state call a ∙ parted-quiet state call a quiet
 
-quiet-answers : (state : State) (call : Call) (a : Answer) → Quiet state a.state → answered_by state call a ≡ []
+quiet-answers : (state : State) (call : Call) (a : Answer) → Quiet (view_of state) (view_of a.state) → answered_by state call a ≡ []
 quiet-answers state call a quiet =
     none-mapped (λ (x : ControlAnswer). x.ticket) (answered_by state call a) (none-first (tickets_told (answered_by state call a)) (tickets_closed (future_closed_by state call a)) (quiet-none state call a quiet))
 
-quiet-gives : (state : State) (call : Call) (a : Answer) → Quiet state a.state → future_closed_by state call a ≡ []
+quiet-gives : (state : State) (call : Call) (a : Answer) → Quiet (view_of state) (view_of a.state) → future_closed_by state call a ≡ []
 quiet-gives state call a quiet =
     none-mapped (λ (x : ClosedFuture). x.ticket) (future_closed_by state call a) (none-second (tickets_told (answered_by state call a)) (tickets_closed (future_closed_by state call a)) (quiet-none state call a quiet))
 
 -- so also where the session is crowded
-module _ (state : State) (line : Item) (inv : Inv state) where
+module _ (state : State) (line : Item) (inv : Inv (view_of state)) where
   abbrev its_call : Call
   its_call = call_of line
 
   abbrev crowded : Answer
   crowded = condition_answer (stepped_all state (steps_in line))
 
-  over-crowd : Quiet state crowded.state
+  over-crowd : Quiet (view_of state) (view_of crowded.state)
   over-crowd = quiet-stepped state (steps_in line)
 
   by-crowd : (P : Answer → Type 0) → P crowded → P (call_answer state its_call) → P (answer state line)
   unfolding answer
   by-crowd P barred called = cond_both (bars_line state line) crowded (call_answer state its_call) P (λ yes_. barred) (λ no_. called)
 
-  pub answer-tells : AllAwait state → answers_control its_call ≡ true → Tells (answer state line) (answered_by state its_call (answer state line))
+  pub answer-tells : AllAwait (view_of state) → answers_control its_call ≡ true → Tells (answer state line) (answered_by state its_call (answer state line))
   answer-tells all is =
       by-crowd (λ a. Tells a (answered_by state its_call a)) (tells-none crowded (answered_by state its_call crowded) (quiet-answers state its_call crowded over-crowd) (inl refl)) (call-tells state its_call inv all is)
 
-  pub answer-came : AllAwait state → All (Came (answer state line).state.host) (answered_by state its_call (answer state line))
+  pub answer-came : AllAwait (view_of state) → All (Came (answer state line).state.host) (answered_by state its_call (answer state line))
   answer-came all =
       by-crowd (λ a. All (Came a.state.host) (answered_by state its_call a))
       (subst (λ xs. All (Came crowded.state.host) xs) (sym (quiet-answers state its_call crowded over-crowd)) (All-nil (Came crowded.state.host))) (call-came state its_call inv all)

@@ -41,6 +41,7 @@ use Rattle.usb_session_calls.specs.Closes.{without_future, close_future_answer}
 use Rattle.usb_session.specs.Ends.{future_closed_at, future_closed_under}
 use Rattle.usb_session_calls.specs.Steps.{with_steps, then_applied, along_steps}
 use Rattle.usb_session.proofs.PrintLemmas.{not_more, one_more}
+use Rattle.usb_session.proofs.Views.{view_of}
 use Rattle.usb_session.proofs.Does.{Quiet, ControlMove, Handed, Parted, Acts, CountsAlike, says_done, goes, starts, controls, frees, ends, quiet-same, told-does, ok-does, along-does}
 
 -- the ticket of a control transfer that an answer hands in, if it does
@@ -64,7 +65,7 @@ control_moves state call a = map Handed (control_ticket_by state call a) ++ map 
 
 -- what the answer of such a call does: it closes no endpoint, and parts with these tickets
 abbrev DoesParting : State → Answer → (List ℕ → List ℕ) → Type 0
-DoesParting state a parted = Acts a state [] (map Handed (handed_in state a) ++ map Parted (parted (handed_in state a)))
+DoesParting state a parted = Acts a (view_of state) [] (map Handed (handed_in state a) ++ map Parted (parted (handed_in state a)))
 
 -- it parts with the ticket that it hands in, with none, or with that of a future
 abbrev DoesControl : State → Answer → Type 0
@@ -85,15 +86,15 @@ handed-none state a keeps = let no_ = not_more (tickets_of state) (tickets_of a.
 handed-one : (state : State) (a : Answer) → CountsOneMore state.host a.state.host → handed_in state a ≡ tickets_of state ∷ []
 handed-one state a more = let yes_ = one_more (tickets_of state) (tickets_of a.state) (omega (arith, more.past)) in rw yes_ refl
 
-hands : (state : State) (a : Answer) (ts : List ℕ) (parted : List ℕ → List ℕ) → handed_in state a ≡ ts → Acts a state [] (map Handed ts ++ map Parted (parted ts)) → DoesParting state a parted
-hands state a ts parted is does = subst (λ us. Acts a state [] (map Handed us ++ map Parted (parted us))) (sym is) does
+hands : (state : State) (a : Answer) (ts : List ℕ) (parted : List ℕ → List ℕ) → handed_in state a ≡ ts → Acts a (view_of state) [] (map Handed ts ++ map Parted (parted ts)) → DoesParting state a parted
+hands state a ts parted is does = subst (λ us. Acts a (view_of state) [] (map Handed us ++ map Parted (parted us))) (sym is) does
 
 -- it hands in none, and parts with none
-hands-none : (state : State) (a : Answer) (parted : List ℕ → List ℕ) → parted [] ≡ [] → KeepsCount state.host a.state.host → Acts a state [] [] → DoesParting state a parted
+hands-none : (state : State) (a : Answer) (parted : List ℕ → List ℕ) → parted [] ≡ [] → KeepsCount state.host a.state.host → Acts a (view_of state) [] [] → DoesParting state a parted
 hands-none state a parted none keeps does =
-    hands state a [] parted (handed-none state a keeps) (subst (λ us. Acts a state [] (map Parted us)) (sym none) does)
+    hands state a [] parted (handed-none state a keeps) (subst (λ us. Acts a (view_of state) [] (map Parted us)) (sym none) does)
 
-hands-quiet : (state : State) (a : Answer) (parted : List ℕ → List ℕ) → parted [] ≡ [] → says_done a.line ≡ false → Quiet state a.state → DoesParting state a parted
+hands-quiet : (state : State) (a : Answer) (parted : List ℕ → List ℕ) → parted [] ≡ [] → says_done a.line ≡ false → Quiet (view_of state) (view_of a.state) → DoesParting state a parted
 hands-quiet state a parted none other quiet = hands-none state a parted none quiet.count (ends other quiet)
 
 barred-hands : (state : State) (parted : List ℕ → List ℕ) → parted [] ≡ [] → DoesParting state (condition_answer state) parted
@@ -138,22 +139,22 @@ ticket-none state call a keeps = by (is_of_control call)
     by true = handed-none state a keeps
     by false = refl
 
-pub parted-quiet : (state : State) (call : Call) (a : Answer) → Quiet state a.state → parted_by state call a ≡ []
+pub parted-quiet : (state : State) (call : Call) (a : Answer) → Quiet (view_of state) (view_of a.state) → parted_by state call a ≡ []
 parted-quiet state (Control call steps) a quiet = handed-none state a quiet.count
 parted-quiet state (Future n call) a quiet = gone-kept state.futures a.state.futures n quiet.futures
 parted-quiet state (Close (closes.Future n)) a quiet = gone-kept state.futures a.state.futures n quiet.futures
 parted-quiet state call a quiet = refl
 
-pub moves-quiet : (state : State) (call : Call) (a : Answer) → Quiet state a.state → control_moves state call a ≡ []
+pub moves-quiet : (state : State) (call : Call) (a : Answer) → Quiet (view_of state) (view_of a.state) → control_moves state call a ≡ []
 moves-quiet state call a quiet =
     ap (λ ts. map Handed ts ++ map Parted (parted_by state call a)) (ticket-none state call a quiet.count) ∙ ap (map Parted) (parted-quiet state call a quiet)
 
 -- where its name is free behind the line it is gone
-hands-future : (state : State) (n : ℕ) (f : FutureState) (a : Answer) → is_free a.state.futures n ≡ true → KeepsCount state.host a.state.host → Acts a state [] (map Parted (listed f.ticket) ++ []) → DoesParting state a (λ ts. future_parted (gone_if (is_free a.state.futures n) (Some f)))
+hands-future : (state : State) (n : ℕ) (f : FutureState) (a : Answer) → is_free a.state.futures n ≡ true → KeepsCount state.host a.state.host → Acts a (view_of state) [] (map Parted (listed f.ticket) ++ []) → DoesParting state a (λ ts. future_parted (gone_if (is_free a.state.futures n) (Some f)))
 hands-future state n f a free keeps does =
     let gone : future_parted (gone_if (is_free a.state.futures n) (Some f)) ≡ listed f.ticket = rw free refl in
     hands state a [] (λ ts. future_parted (gone_if (is_free a.state.futures n) (Some f))) (handed-none state a keeps)
-    (subst (λ us. Acts a state [] (map Parted us)) (sym gone) (subst (λ ms. Acts a state [] ms) (append-nil (map Parted (listed f.ticket))) does))
+    (subst (λ us. Acts a (view_of state) [] (map Parted us)) (sym gone) (subst (λ ms. Acts a (view_of state) [] ms) (append-nil (map Parted (listed f.ticket))) does))
 
 -- no line of a control transfer is one of a completion
 failed-other : (error : TransferError) → says_done (failed_line error) ≡ false
@@ -273,7 +274,7 @@ future_polled-does state n f (Some r) here =
     hands-future state n f (future_polled state n f (Some r)) (freed-free state.futures n f here) parts.count (frees n f (future_taken state.host f) here parts (told-does _ (received_line r) (received-other r)))
 
 -- it is awaited
-pub awaited-quiet : (state : State) (deadline : ℕ) (ticket : Option ℕ) → Quiet state (with_host state (awaited_by state.host deadline ticket))
+pub awaited-quiet : (state : State) (deadline : ℕ) (ticket : Option ℕ) → Quiet (view_of state) (view_of (with_host state (awaited_by state.host deadline ticket)))
 awaited-quiet state deadline None = quiet-same state
 awaited-quiet state deadline (Some t) =
     record { keeps = on-awaited state.host t deadline; count = awaited-count state.host t deadline; endpoints = λ d. refl; names = refl; futures = refl }
@@ -307,12 +308,12 @@ abbrev pub moves_parting : Option FutureState → List ControlMove
 moves_parting None = []
 moves_parting (Some f) = map Parted (listed f.ticket) ++ []
 
-future_closed_at-does : (state : State) (n : ℕ) (line : List ℕ) (o : Option FutureState) → named state.futures n ≡ o → says_done line ≡ false → Acts (answer_with (future_closed_at state n o) line) state [] (moves_parting o)
+future_closed_at-does : (state : State) (n : ℕ) (line : List ℕ) (o : Option FutureState) → named state.futures n ≡ o → says_done line ≡ false → Acts (answer_with (future_closed_at state n o) line) (view_of state) [] (moves_parting o)
 future_closed_at-does state n line None here other = told-does state line other
 future_closed_at-does state n line (Some f) here other =
     frees n f (future_closed state.host f) here (parts-future_closed state.host f.key f.ticket) (told-does (without_future state n f) line other)
 
-pub future_closed_under-does : (state : State) (n : ℕ) → Acts (silent (future_closed_under state n)) state [] (moves_parting (named state.futures n))
+pub future_closed_under-does : (state : State) (n : ℕ) → Acts (silent (future_closed_under state n)) (view_of state) [] (moves_parting (named state.futures n))
 unfolding future_closed_under
 future_closed_under-does state n = future_closed_at-does state n [] (named state.futures n) refl refl
 

@@ -16,27 +16,30 @@ use Rattle.usb_script_lines.specs.declared.item.Item.{Item}
 use Rattle.usb_session_calls.specs.State.{State}
 use Rattle.usb_session_calls.specs.Calls.{call_of}
 use Rattle.usb_session.specs.Answers.{answer}
-use Rattle.usb_session_calls.specs.EndpointNames.{EndpointName, Own, OfReader, OfWriter}
+use Rattle.usb_session_calls.specs.EndpointNames.{EndpointName}
 use Rattle.usb_session_calls.specs.Closes.{closed}
 use Rattle.usb_session_calls.specs.Readers.{reader_closed}
 use Rattle.usb_session_calls.specs.Writers.{writer_closed}
+use Rattle.usb_session_calls.specs.Clients.{client_closed}
 use Rattle.usb_session.specs.Below.{below}
-use Rattle.usb_session.specs.Ends.{readers_closed, writers_closed, endpoints_closed, future_closed_at, future_closed_under, futures_closed, ended, all_closed}
+use Rattle.usb_session.specs.Ends.{clients_closed, readers_closed, writers_closed, endpoints_closed, future_closed_at, future_closed_under, futures_closed, ended, all_closed}
 use Rattle.usb_session.specs.Output.{start, behind, last_host, final_host}
-use Rattle.usb_session.specs.Served.{control_ticket, control_tickets_from, control_tickets}
+use Rattle.usb_session.specs.Served.{ClosedEndpoint, client_closed_under, control_ticket, control_tickets_from, control_tickets}
 use Rattle.usb_session.specs.ControlAnswers.{ControlAnswer, listed, answered_by, control_answers_from, control_answers}
 use Rattle.usb_session.specs.ClosedFutures.{ClosedFuture, future_closed_as, future_closed_by, futures_at_end, closed_futures_from, closed_futures}
 use Rattle.usb_session.specs.ControlsServed.{IsAnsweredAsItCame, IsGivenUp, tickets_parted, ScriptsServeControls}
+use Rattle.usb_session.proofs.Views.{view_of}
 use Rattle.usb_session.proofs.Does.{Closing, Parted, handed_of, parted_of, parted-handed, parted-parted}
 use Rattle.usb_session.proofs.ControlLines.{future_parted, parted_by, control_moves, moves_parting, future_closed_under-does}
 use Rattle.usb_session.proofs.EndpointLines.{closed-does}
 use Rattle.usb_session.proofs.ReaderDoes.{reader_closed-does}
 use Rattle.usb_session.proofs.WriterDoes.{writer_closed-does}
+use Rattle.usb_session.proofs.ClientDoes.{client_closed-does}
 use Rattle.usb_session.proofs.EveryLine.{answer-does}
 use Rattle.usb_session.proofs.OrderLemmas.{goes-keeps, ended-given, given-within}
 use Rattle.usb_session.proofs.TimesLemmas.{times, times-append, counts-times, times_awaited, awaited-none}
 use Rattle.usb_session.proofs.StepLemmas.{Inv, below-step, answer-step, handed-moves, none-handed, future_closed-step}
-use Rattle.usb_session.proofs.HandleLemmas.{readers-step, writers-step, ends-step, futures-step, end-quiet, inv-start, inv-of, runs-go}
+use Rattle.usb_session.proofs.HandleLemmas.{readers_shut, writers_shut, own_shut, clients-step, readers-step, writers-step, ends-step, futures-step, end-quiet, inv-start, inv-of, runs-go}
 use Rattle.usb_session.proofs.RunLemmas.{no-future_start}
 use Rattle.usb_session.proofs.FuturesAwaited.{AllAwait, Parting, parting-then, parting-same, acts-parting}
 use Rattle.usb_session.proofs.ControlCame.{tickets_told, tickets_closed, future-given, both_by, both-parted, Came, came-on, Gave, gave-on, answer-tells, answer-came, answer-gives, closed_under-gives}
@@ -48,10 +51,10 @@ closed-append : (t : ℕ) (xs ys : List ClosedFuture) → times t (tickets_close
 closed-append t xs ys = ap (times t) (map-append (λ (x : ClosedFuture). x.ticket) xs ys) ∙ times-append t (tickets_closed xs) (tickets_closed ys)
 
 -- over a line
-line-parting : (state : State) (line : Item) → Inv state → AllAwait state → Parting state (answer state line).state (control_moves state (call_of line) (answer state line))
+line-parting : (state : State) (line : Item) → Inv (view_of state) → AllAwait (view_of state) → Parting (view_of state) (view_of (answer state line).state) (control_moves state (call_of line) (answer state line))
 line-parting state line inv all = acts-parting (answer-does state (λ e. []) line) inv all
 
-line-adds : (state : State) (line : Item) (t : ℕ) → Inv state → AllAwait state
+line-adds : (state : State) (line : Item) (t : ℕ) → Inv (view_of state) → AllAwait (view_of state)
     → times t (tickets_told (answered_by state (call_of line) (answer state line))) + times t (tickets_closed (future_closed_by state (call_of line) (answer state line))) + times_awaited t (answer state line).state.futures ≡ times_awaited t state.futures + times t (control_ticket state line)
 line-adds state line t inv all =
     let a = answer state line in
@@ -63,16 +66,16 @@ line-adds state line t inv all =
     let parts = times-append t (tickets_told (answered_by state call a)) (tickets_closed (future_closed_by state call a)) in
     omega arith
 
--- the end closes readers, writers and endpoints
-below-parting : (act : State → ℕ → State) (name : ℕ → EndpointName) → Closing act name → (state : State) (k : ℕ) → Inv state → AllAwait state → Parting state (below act state k) []
-below-parting act name closing state zero inv all = parting-same state state refl (extends-same state.host.kernel.past) all
-below-parting act name closing state (suc k) inv all =
-    let first = below-parting act name closing state k inv all in
-    parting-then first (acts-parting (closing (below act state k) k (λ e. [])) (below-step act name closing state (λ e. []) k inv).inv first.awaits)
+-- the end closes clients, readers, writers and endpoints
+below-parting : (act : State → ℕ → State) (shut : State → (EndpointName → List (List ℕ)) → ℕ → List ClosedEndpoint) → Closing act shut → (state : State) (k : ℕ) → Inv (view_of state) → AllAwait (view_of state) → Parting (view_of state) (view_of (below act state k)) []
+below-parting act shut closing state zero inv all = parting-same (view_of state) (view_of state) refl (extends-same state.host.kernel.past) all
+below-parting act shut closing state (suc k) inv all =
+    let first = below-parting act shut closing state k inv all in
+    parting-then first (acts-parting (closing (below act state k) k (λ e. [])) (below-step act shut closing state (λ e. []) k inv).inv first.awaits)
 
 -- and then the futures
 record FuturesEnd (state : State) (k : ℕ) : Type 0 where
-  awaits : AllAwait (futures_closed state k)
+  awaits : AllAwait (view_of (futures_closed state k))
   adds : (t : ℕ) → times t (tickets_closed (futures_at_end state k)) + times_awaited t (futures_closed state k).futures ≡ times_awaited t state.futures
   names : length (futures_closed state k).futures ≡ length state.futures
   gives : All (Gave (futures_closed state k).host) (futures_at_end state k)
@@ -81,7 +84,7 @@ moves-parted : (o : Option FutureState) → parted_of (moves_parting o) ≡ futu
 moves-parted None = refl
 moves-parted (Some f) = ap parted_of (append-nil (map Parted (listed f.ticket))) ∙ parted-parted (listed f.ticket)
 
-futures-end : (state : State) (k : ℕ) → Inv state → AllAwait state → FuturesEnd state k
+futures-end : (state : State) (k : ℕ) → Inv (view_of state) → AllAwait (view_of state) → FuturesEnd state k
 futures-end state zero inv all = record { awaits = all; adds = λ t. omega arith; names = refl; gives = All-nil (Gave state.host) }
 futures-end state (suc k) inv all =
     let first = futures-end state k inv all in
@@ -127,18 +130,21 @@ record ControlRun (state : State) (items : List Item) : Type 0 where
   came : All (Came (last_host state items)) (control_answers_from state items)
   gives : All (Gave (last_host state items)) (closed_futures_from state items)
 
-control-end : (state : State) → Inv state → AllAwait state → length state.futures ≡ 64 → ControlRun state []
+control-end : (state : State) → Inv (view_of state) → AllAwait (view_of state) → length state.futures ≡ 64 → ControlRun state []
 unfolding ended all_closed
 control-end state inv all names =
-    let read = readers_closed state 64 in
+    let messaged = clients_closed state 64 in
+    let read = readers_closed messaged 64 in
     let written = writers_closed read 64 in
     let mid = endpoints_closed written 64 in
     let last = futures_closed mid 64 in
-    let one_ = below-parting reader_closed OfReader reader_closed-does state 64 inv all in
-    let inv_read = (readers-step state (λ e. []) 64 inv).inv in
-    let two = parting-then one_ (below-parting writer_closed OfWriter writer_closed-does read 64 inv_read one_.awaits) in
+    let zero_ = below-parting client_closed client_closed_under client_closed-does state 64 inv all in
+    let inv_messaged = (clients-step state (λ e. []) 64 inv).inv in
+    let one_ = parting-then zero_ (below-parting reader_closed readers_shut reader_closed-does messaged 64 inv_messaged zero_.awaits) in
+    let inv_read = (readers-step messaged (λ e. []) 64 inv_messaged).inv in
+    let two = parting-then one_ (below-parting writer_closed writers_shut writer_closed-does read 64 inv_read one_.awaits) in
     let inv_written = (writers-step read (λ e. []) 64 inv_read).inv in
-    let three = parting-then two (below-parting closed Own closed-does written 64 inv_written two.awaits) in
+    let three = parting-then two (below-parting closed own_shut closed-does written 64 inv_written two.awaits) in
     let inv_mid = (ends-step written (λ e. []) 64 inv_written).inv in
     let futures = futures-end mid 64 inv_mid three.awaits in
     record {
@@ -153,7 +159,7 @@ control-end state inv all names =
       gives = gave-on last.host (last_host state []) (futures_at_end mid 64) (goes-keeps last.host (last_host state []) (end-quiet last).keeps) futures.gives;
     }
 
-control-runs : (state : State) (items : List Item) → Inv state → AllAwait state → length state.futures ≡ 64 → ControlRun state items
+control-runs : (state : State) (items : List Item) → Inv (view_of state) → AllAwait (view_of state) → length state.futures ≡ 64 → ControlRun state items
 control-runs state [] inv all names = control-end state inv all names
 control-runs state (line ∷ items) inv all names =
     let a = answer state line in
@@ -177,14 +183,14 @@ control-runs state (line ∷ items) inv all names =
     }
 
 -- before the first line no future is open
-pub none-await : (items : List Item) → AllAwait (start items)
+pub none-await : (items : List Item) → AllAwait (view_of (start items))
 none-await items n f is = absurd (none-some f (sym (no-future_start items n) ∙ is))
 
 start-futures : (items : List Item) → length (start items).futures ≡ 64
 unfolding start
 start-futures items = length-replicate {A = Option FutureState} 64 None
 
-pub await-behind : (state : State) (items : List Item) → Inv state → AllAwait state → AllAwait (behind state items)
+pub await-behind : (state : State) (items : List Item) → Inv (view_of state) → AllAwait (view_of state) → AllAwait (view_of (behind state items))
 await-behind state [] inv all = all
 await-behind state (line ∷ items) inv all = await-behind (answer state line).state items (answer-step state (λ e. []) line inv).inv (line-parting state line inv all).awaits
 

@@ -35,10 +35,10 @@ use Rattle.usb_script_words.specs.Words.{at_most}
 use Rattle.usb_session_calls.specs.Names.{named, freed}
 use Rattle.usb_session_calls.specs.State.{State}
 use Rattle.usb_session.specs.Below.{below}
-use Rattle.usb_session.specs.Ends.{interfaces_closed, devices_closed, readers_closed, writers_closed, endpoints_closed, futures_closed, all_closed, ended}
-use Rattle.usb_session_calls.specs.EndpointNames.{EndpointName, Own, OfReader, OfWriter}
+use Rattle.usb_session.specs.Ends.{interfaces_closed, devices_closed, streams_closed, endpoints_closed, futures_closed, all_closed, ended}
+use Rattle.usb_session_calls.specs.EndpointNames.{EndpointName, Own, OfReader, OfWriter, OfClientWriter, OfClientReader}
 use Rattle.usb_session_calls.specs.SessionState.{SessionState, IsSound, open_under}
-use Rattle.usb_session.proofs.Replaced.{reader_endpoint, writer_endpoint}
+use Rattle.usb_session.proofs.Replaced.{reader_endpoint, writer_endpoint, client_writer_endpoint, client_reader_endpoint}
 use Rattle.usb_session_calls.specs.Relation.{Represents}
 use Rattle.usb_session_calls.proofs.CountedNames.{count-none, count-no_name}
 use Rattle.usb_session_calls.proofs.CountedDevices.{count-no_device}
@@ -63,21 +63,35 @@ none-all xs all none n =
       | inr beyond ↦ named-past xs n (omega arith)
     ]
 
--- nothing is open under the name of an endpoint any more once readers were closed (read), then writers (written) and then endpoints (closed)
-pub none-open : (read written closed last : SessionState) → IsSound last → ((r : ℕ) → r < 64 → named read.readers r ≡ None) → written.readers ≡ read.readers → ((w : ℕ) → w < 64 → named written.writers w ≡ None)
-    → closed.readers ≡ written.readers → closed.writers ≡ written.writers → ((e : ℕ) → e < 64 → named closed.endpoints e ≡ None) → open_under last ≡ open_under closed → (e : EndpointName) → open_under last e ≡ None
-none-open read written closed last sound readers same_readers writers still_readers same_writers endpoints same (Own e) =
-    none-all last.endpoints sound.endpoint_names (λ n below. ap (λ (opened : EndpointName → Option EndpointState). opened (Own n)) same ∙ endpoints n below) e
-none-open read written closed last sound readers same_readers writers still_readers same_writers endpoints same (OfReader r) =
-    elim (cases_lt r 64) [
-      | inl within ↦ ap (λ (opened : EndpointName → Option EndpointState). opened (OfReader r)) same ∙ ap (option_map reader_endpoint) (ap (λ l. named l r) (still_readers ∙ same_readers) ∙ readers r within)
-      | inr beyond ↦ ap (option_map reader_endpoint) (named-past last.readers r (omega (arith, sound.reader_names, beyond)))
-    ]
-none-open read written closed last sound readers same_readers writers still_readers same_writers endpoints same (OfWriter w) =
-    elim (cases_lt w 64) [
-      | inl within ↦ ap (λ (opened : EndpointName → Option EndpointState). opened (OfWriter w)) same ∙ ap (option_map writer_endpoint) (ap (λ l. named l w) same_writers ∙ writers w within)
-      | inr beyond ↦ ap (option_map writer_endpoint) (named-past last.writers w (omega (arith, sound.writer_names, beyond)))
-    ]
+-- where none of the 64 names of each kind is open, nothing is under the name of an endpoint
+module _ (closed last : SessionState) (sound : IsSound last) (clients : (m : ℕ) → m < 64 → named closed.clients m ≡ None) (readers : (r : ℕ) → r < 64 → named closed.readers r ≡ None)
+    (writers : (w : ℕ) → w < 64 → named closed.writers w ≡ None) (endpoints : (e : ℕ) → e < 64 → named closed.endpoints e ≡ None) (same : open_under last ≡ open_under closed) where
+  -- a name is seen so in both
+  seen : (e : EndpointName) → open_under closed e ≡ None → open_under last e ≡ None
+  seen e none = ap (λ (opened : EndpointName → Option EndpointState). opened e) same ∙ none
+
+  pub none-open : (e : EndpointName) → open_under last e ≡ None
+  none-open (Own e) = none-all last.endpoints sound.endpoint_names (λ n below. seen (Own n) (endpoints n below)) e
+  none-open (OfReader r) =
+      elim (cases_lt r 64) [
+        | inl within ↦ seen (OfReader r) (ap (option_map reader_endpoint) (readers r within))
+        | inr beyond ↦ ap (option_map reader_endpoint) (named-past last.readers r (omega (arith, sound.reader_names, beyond)))
+      ]
+  none-open (OfWriter w) =
+      elim (cases_lt w 64) [
+        | inl within ↦ seen (OfWriter w) (ap (option_map writer_endpoint) (writers w within))
+        | inr beyond ↦ ap (option_map writer_endpoint) (named-past last.writers w (omega (arith, sound.writer_names, beyond)))
+      ]
+  none-open (OfClientWriter m) =
+      elim (cases_lt m 64) [
+        | inl within ↦ seen (OfClientWriter m) (ap (option_map client_writer_endpoint) (clients m within))
+        | inr beyond ↦ ap (option_map client_writer_endpoint) (named-past last.clients m (omega (arith, sound.client_names, beyond)))
+      ]
+  none-open (OfClientReader m) =
+      elim (cases_lt m 64) [
+        | inl within ↦ seen (OfClientReader m) (ap (option_map client_reader_endpoint) (clients m within))
+        | inr beyond ↦ ap (option_map client_reader_endpoint) (named-past last.clients m (omega (arith, sound.client_names, beyond)))
+      ]
 
 -- a number below 64 is a name's
 pub is_name : (n m : ℕ) → at_most 63 n ≡ Some m → m ≡ n
@@ -91,7 +105,7 @@ pub no_name : (n : ℕ) → n < 64 → at_most 63 n ≡ None → ⊥
 no_name n below is = let few : nat_le n 63 ≡ true = grind (arith, nat_tests) in none-some n (sym is ∙ ap (λ (b : Bool). if b then Some n else None) few)
 
 -- the host of a session at the end
-pub end-host : (s : SessionState) (host now : HostState) (state : State) → s.host ≡ host → now ≡ finished host → Represents s (devices_closed (interfaces_closed (futures_closed (endpoints_closed (writers_closed (readers_closed state 64) 64) 64) 64) 64) 64) → now ≡ ended state
+pub end-host : (s : SessionState) (host now : HostState) (state : State) → s.host ≡ host → now ≡ finished host → Represents s (devices_closed (interfaces_closed (futures_closed (endpoints_closed (streams_closed state) 64) 64) 64) 64) → now ≡ ended state
 unfolding ended all_closed
 end-host s host now state here done r =
     done ∙ ap finished (sym here ∙ ap (λ (v : SessionState). v.host) r)

@@ -1,5 +1,5 @@
 -- What the calls on endpoints do.
-use Rattle.std.proofs.Common.{◌≡◌, ℕ, arith, List, [], ◌∷◌, ◌++◌, length, drop, Option, Some, None, Result, true, false, refl, ap, sym, ◌∙◌, subst, slice_get}
+use Rattle.std.proofs.Common.{◌≡◌, ◌<◌, ℕ, arith, List, [], ◌∷◌, ◌++◌, length, drop, Option, Some, None, Result, Ok, Err, true, false, refl, ap, sym, ◌∙◌, subst, slice_get}
 use Rattle.std.specs.Prelude.{not, ◌||◌, ◌==◌, nat_le, is_some}
 use Rattle.std.specs.Option.{option_map}
 use Rattle.std.proofs.lemmas.Bool.{or_parts, eqb-true, not-false}
@@ -27,6 +27,7 @@ use Rattle.usb_device_host.specs.EndpointOpens.{host_asked, host_tries, with_end
 use Rattle.usb_device_host.proofs.CountLemmas.{asked-count, entered-count, waited-count, blocked-count, all_discarded-count}
 use Rattle.usb_device_host.proofs.FollowLemmas.{on-asked, on-waited, on-blocked, on-all_discarded}
 use Rattle.usb_device_host.proofs.FoundLemmas.{blocked-found}
+use Rattle.usb_device_host.proofs.EndpointLemmas.{tried-some}
 use Rattle.usb_session_text.specs.Completions.{count_line, done_line, polled_line, waited_line}
 use Rattle.usb_session_calls.specs.Names.{named, is_free, freed, change_named}
 use Rattle.usb_session_calls.specs.declared.call.EndpointCall.{EndpointCall}
@@ -47,35 +48,39 @@ use Rattle.usb_session_calls.specs.EndpointNames.{EndpointName, Own, endpoint_un
 use Rattle.usb_session_calls.proofs.NameLemmas.{free-none}
 use Rattle.usb_session_calls.proofs.EndpointNameLemmas.{Changed, set-changes, freed-changes, change-changes}
 use Rattle.usb_session.proofs.CallLeads.{then-changes}
-use Rattle.usb_session.proofs.Does.{Shuts, Acts, Changes, Does, own-changes, says_done, goes, opens, submits, ends, takes, quiet-aside, quiet-same, told-does, barred-does, free-does, bar-does, try-does, ok-does, named-does, closing-does, result-other}
+use Rattle.usb_session.proofs.Views.{view_of}
+use Rattle.usb_session.proofs.Does.{Shuts, shuts-by, Acts, Changes, Does, own-changes, says_done, goes, opens, submits, ends, takes, quiet-aside, quiet-same, told-does, barred-does, free-does, bar-does, ok-does, error-does, named-does, closing-does, result-other}
 use Rattle.usb_session_calls.proofs.DeviceHosts.{halt-aside}
 
--- an endpoint is opened
-endpoint_as-does : (state : State) (e address : ℕ) (kind : TransferType) (x : InterfaceAt) (tried : Result ℕ ErrorState) → is_free state.endpoints e ≡ true → Does state (endpoint_as state e address kind x tried)
-endpoint_as-does state e address kind x tried free =
-    try-does (endpoint_as state e address kind x) tried (λ error. refl) (λ maximum.
-    goes (quiet-aside state (with_host state (with_endpoint state.host x.handle.key address)) refl refl (λ d. refl) refl refl)
-    (opens e (new_endpoint state.host x.claimed.device address kind maximum) (free-none state.endpoints e free) refl refl
-    (own-changes (with_host state (with_endpoint state.host x.handle.key address)) (with_endpoint state.host x.handle.key address) _ e _ (set-changes state.endpoints e (new_endpoint state.host x.claimed.device address kind maximum) free)) (ok-does _)))
+-- an endpoint is opened, whose packets have some bytes
+endpoint_as-does : (state : State) (e address : ℕ) (kind : TransferType) (x : InterfaceAt) (tried : Result ℕ ErrorState) → is_free state.endpoints e ≡ true → ((maximum : ℕ) → tried ≡ Ok maximum → 0 < maximum) → Does state (endpoint_as state e address kind x tried)
+endpoint_as-does state e address kind x (Err error) free some = error-does state error
+endpoint_as-does state e address kind x (Ok maximum) free some =
+    let now = with_endpoint state.host x.handle.key address in
+    let y = new_endpoint state.host x.claimed.device address kind maximum in
+    goes (quiet-aside state (with_host state now) refl refl (λ d. refl) refl refl)
+    (opens e y (free-none state.endpoints e free) refl refl (some maximum refl)
+    (own-changes (with_host state now) now _ e _ (set-changes state.endpoints e y free)) (ok-does _))
 
 pub endpoint-does : (state : State) (e i address : ℕ) (kind : TransferType) (direction : Direction) → Does state (endpoint_answer state e i address kind direction)
 unfolding endpoint_answer
 endpoint-does state e i address kind direction =
-    named-does (interface_at state i) _ (λ x is.
-    free-does (λ free.
+    named-does state (interface_at state i) _ (λ x is.
+    free-does state (λ free.
     let host = host_asked state.host x.claimed.opened in
     goes (record { keeps = on-asked state.host x.claimed.opened; count = asked-count state.host x.claimed.opened; endpoints = λ d. refl; names = refl; futures = refl })
-    (endpoint_as-does (with_host state host) e address kind x (host_tries host x.handle.key x.claimed address kind direction) free)))
+    (endpoint_as-does (with_host state host) e address kind x (host_tries host x.handle.key x.claimed address kind direction) free
+    (λ maximum. tried-some host x.handle.key x.claimed address kind direction maximum))))
 
 -- what a call changes of an endpoint
-changed-own : (state : State) (f : Endpoint → Endpoint) (e : ℕ) (h : Endpoint) → named state.endpoints e ≡ Some h → (host : HostState) → Changes state (record state { host = host; endpoints = change_named f state.endpoints e }) host (Own e) (Some (f h))
+changed-own : (state : State) (f : Endpoint → Endpoint) (e : ℕ) (h : Endpoint) → named state.endpoints e ≡ Some h → (host : HostState) → Changes (view_of state) (view_of (record state { host = host; endpoints = change_named f state.endpoints e })) host (Own e) (Some (f h))
 changed-own state f e h here host = own-changes state host (change_named f state.endpoints e) e (Some (f h)) (change-changes f state.endpoints e h here)
 
 -- a ticket is submitted
 submit_on-does : (state : State) (direction : Direction) (e : ℕ) (b : BufferState) (timeout : Option ℕ) (h : Endpoint) → named state.endpoints e ≡ Some h → Does state (submit_on state direction e b timeout h)
 submit_on-does state direction e b timeout h here =
     let deadline = deadline_by state.host timeout in
-    bar-does (λ no_. submits (Own e) deadline b h here
+    bar-does state (λ no_. submits (Own e) deadline b h here
     (changed-own state (with_submission (tickets_of state)) e h here (entered host_calls state.host h.state deadline b)) (ok-does (submitted state e b timeout h)))
 
 -- the oldest pending ticket is taken
@@ -128,13 +133,13 @@ transfer_made-does state e b timeout h here none =
     let front : (with_submission n h).state.pending ≡ n ∷ [] = ap (λ (l : List ℕ). l ++ n ∷ []) none in
     let taken : with_taken n h ≡ front_taken n (with_submission n h) =
     ap (λ (l : List ℕ). record h { state = record h.state { pending = l }; taken = h.taken ++ n ∷ [] }) (none ∙ sym (ap (λ (l : List ℕ). drop 1 l) front)) in
-    submits (Own e) None b h here first (goes {next = last} (record { keeps = on-blocked sent.host n timeout; count = blocked-count sent.host n timeout; endpoints = λ d. refl; names = refl; futures = refl })
-    (takes {state = last} {next = (transfer_made state e b timeout h).state} (Own e) n [] (with_submission n h) found.0 first.endpoints.here front found.1 (ap waited_line found.1)
-    (subst (λ g. Changes last (transfer_made state e b timeout h).state (host_taken last.host n) (Own e) (Some g)) taken (then-changes here_last whole)) (quiet-same (transfer_made state e b timeout h).state)))
+    submits (Own e) None b h here first (goes {next = view_of last} (record { keeps = on-blocked sent.host n timeout; count = blocked-count sent.host n timeout; endpoints = λ d. refl; names = refl; futures = refl })
+    (takes {v = view_of last} {next = view_of (transfer_made state e b timeout h).state} (Own e) n [] (with_submission n h) found.0 first.endpoints.here front found.1 (ap waited_line found.1)
+    (subst (λ g. Changes (view_of last) (view_of (transfer_made state e b timeout h).state) (host_taken last.host n) (Own e) (Some g)) taken (then-changes here_last whole)) (quiet-same (transfer_made state e b timeout h).state)))
 
 transfer_on-does : (state : State) (direction : Direction) (e : ℕ) (b : BufferState) (timeout : ℕ) (h : Endpoint) → named state.endpoints e ≡ Some h → Does state (transfer_on state direction e b timeout h)
 transfer_on-does state direction e b timeout h here =
-    bar-does (λ allowed. transfer_made-does state e b timeout h here (transfer-free state.host.kernel.past direction h.state allowed))
+    bar-does state (λ allowed. transfer_made-does state e b timeout h here (transfer-free state.host.kernel.past direction h.state allowed))
 
 -- so each call at an endpoint that is open
 called-does : (state : State) (e : ℕ) (h : Endpoint) (call : EndpointCall) → named state.endpoints e ≡ Some h → Does state (endpoint_called call state e h)
@@ -155,31 +160,34 @@ called-does state e h ClearHalt here =
 
 pub on_endpoint-does : (state : State) (e : ℕ) (call : EndpointCall) → Does state (on_endpoint state e call)
 unfolding on_endpoint
-on_endpoint-does state e call = named-does (named state.endpoints e) (endpoint_called call state e) (λ h here. called-does state e h call here)
+on_endpoint-does state e call = named-does state (named state.endpoints e) (endpoint_called call state e) (λ h here. called-does state e h call here)
 
 map-id : {X : Type 0} (o : Option X) → option_map (λ x. x) o ≡ o
 map-id None = refl
 map-id (Some x) = refl
 
 -- an endpoint is closed
-closed-changes : (state : State) (e : ℕ) (h : Endpoint) → Changes state (without_endpoint state e h) (after_close host_calls state.host h.state) (Own e) None
+closed-changes : (state : State) (e : ℕ) (h : Endpoint) → Changes (view_of state) (view_of (without_endpoint state e h)) (after_close host_calls state.host h.state) (Own e) None
 closed-changes state e h = own-changes state (after_close host_calls state.host h.state) (freed state.endpoints e) e None (freed-changes state.endpoints e)
 
-pub closed-does : (state : State) (e : ℕ) (lines : EndpointName → List (List ℕ)) → Acts (silent (closed state e)) state (closed_under state lines (Own e)) []
+pub closed-does : (state : State) (e : ℕ) (lines : EndpointName → List (List ℕ)) → Acts (silent (closed state e)) (view_of state) (closed_under state lines (Own e)) []
 unfolding closed
 closed-does state e lines =
     closing-does state (Own e) lines (named state.endpoints e) (λ h. h) (λ o. silent (closed_at state e o)) (without_endpoint state e) (sym (map-id (named state.endpoints e))) refl (quiet-same state) (λ h. refl)
     (λ h is. closed-changes state e h) (λ h. quiet-same (without_endpoint state e h))
 
-pub closed-shuts : Shuts closed Own
+closed-gone : (state : State) (e : ℕ) → Changed (endpoint_under state) (endpoint_under (closed state e)) (Own e) None
 unfolding closed
-closed-shuts state e = by (named state.endpoints e) refl
+closed-gone state e = by (named state.endpoints e) refl
   where
     by : (o : Option Endpoint) → named state.endpoints e ≡ o → Changed (endpoint_under state) (endpoint_under (closed_at state e o)) (Own e) None
     by None is = record { here = is; others = λ d apart. refl }
     by (Some h) is = (closed-changes state e h).endpoints
 
-pub close-does : (state : State) (e : ℕ) (lines : EndpointName → List (List ℕ)) → Acts (close_answer state e) state (closed_under state lines (Own e)) []
+pub closed-shuts : Shuts closed Own
+closed-shuts = shuts-by closed Own closed-gone
+
+pub close-does : (state : State) (e : ℕ) (lines : EndpointName → List (List ℕ)) → Acts (close_answer state e) (view_of state) (closed_under state lines (Own e)) []
 unfolding close_answer
 close-does state e lines =
     closing-does state (Own e) lines (named state.endpoints e) (λ h. h) (λ o. if_open o (λ h. ok_answer (without_endpoint state e h)) (condition_answer state)) (without_endpoint state e) (sym (map-id (named state.endpoints e))) refl (quiet-same state) (λ h. refl)

@@ -1,5 +1,5 @@
 -- The endpoints of a whole script.
-use Rattle.std.proofs.Common.{◌≡◌, ◌≢◌, ℕ, ◌<◌, ◌+◌, suc, zero, arith, false, List, [], ◌∷◌, ◌++◌, length, map, slice_get, Option, Some, None, refl, ap, sym, ◌∙◌, subst, inl, inr}
+use Rattle.std.proofs.Common.{◌≡◌, ◌≢◌, ℕ, ◌<◌, ◌+◌, suc, zero, arith, true, false, List, [], ◌∷◌, ◌++◌, length, map, slice_get, Option, Some, None, refl, ap, sym, ◌∙◌, subst, inl, inr}
 use Rattle.std.specs.Prelude.{option_and_then, All, count_by, ◌==◌}
 use Rattle.std.proofs.lemmas.Bool.{cases_eq, cond_both}
 use Rattle.std.proofs.lemmas.List.Elements.{All-append, All-nil, All-cons}
@@ -15,71 +15,95 @@ use Rattle.usb_session_calls.specs.declared.call.Call.TheVariants.{Close}
 use Rattle.usb_session_calls.specs.declared.call.CloseCall.TheVariants as closes
 use Rattle.usb_device_ledger.specs.declared.ends.TicketEnd.{TicketEnd}
 use Rattle.usb_device_ledger.specs.Entries.{HostTicket, HeldBy, Abandoned, Ended}
+use Rattle.usb_device_endpoint.specs.Closes.{after_close}
 use Rattle.usb_device_host.specs.HostState.{HostState}
 use Rattle.usb_device_ledger.specs.EndedTickets.{ended_at}
 use Rattle.usb_device_host.specs.Finishes.{discarded_below, reaped_below, finished, HasEnds}
-use Rattle.usb_device_host.specs.HostCalls.{host_discarded}
+use Rattle.usb_device_host.specs.HostCalls.{host_calls, host_discarded}
 use Rattle.usb_device_host.specs.HostTurns.{host_reaped}
 use Rattle.usb_device_host.proofs.CountLemmas.{KeepsCount, count-same, count-trans, discarded-count, reaped-count}
 use Rattle.usb_device_host.proofs.FollowLemmas.{on-finished}
 use Rattle.usb_device.specs.Futures.{FutureState}
 use Rattle.usb_session_calls.specs.Names.{named}
-use Rattle.usb_session_calls.specs.State.{State, Endpoint, tickets_of, with_host}
-use Rattle.usb_session_calls.specs.EndpointNames.{EndpointName, Own, OfReader, OfWriter, endpoint_under}
+use Rattle.usb_session_calls.specs.State.{State, Endpoint, Client, tickets_of, with_host, endpoint_of_client_writer, endpoint_of_client_reader}
+use Rattle.usb_session_calls.specs.EndpointNames.{EndpointName, Own, OfReader, OfWriter, OfClientWriter, OfClientReader, endpoint_under}
 use Rattle.usb_session_calls.specs.Readers.{reader_closed}
 use Rattle.usb_session_calls.specs.Writers.{writer_closed}
+use Rattle.usb_session_calls.specs.Clients.{client_closed}
 use Rattle.usb_session_calls.specs.Closes.{closed}
 use Rattle.usb_session_calls.specs.Calls.{call_of}
 use Rattle.usb_session.specs.Answers.{answer}
 use Rattle.usb_session.specs.Below.{below, given_below}
 use Rattle.usb_session.specs.Crowded.{bars_line}
-use Rattle.usb_session.specs.Ends.{readers_closed, writers_closed, endpoints_closed, future_closed_at, future_closed_under, futures_closed, interfaces_closed, devices_closed, all_closed, ended}
+use Rattle.usb_session.specs.Ends.{clients_closed, readers_closed, writers_closed, streams_closed, endpoints_closed, future_closed_at, future_closed_under, futures_closed, interfaces_closed, devices_closed, all_closed, ended}
 use Rattle.usb_session.specs.Output.{start, behind, last_host, final_host}
 use Rattle.usb_session.specs.Behind.{GoesOnTo, ScriptsGoOn}
-use Rattle.usb_session.specs.Served.{ClosedEndpoint, closed_endpoints, IsServedInOrder, EndpointsAreServedInOrder, ScriptsAreCounted, closed_as, tickets_of_all, closed_under, closed_by_call, closed_by, read_at_end, written_at_end, closed_at_end, closed_endpoints_from, control_ticket, control_tickets_from, control_tickets, lines_behind}
+use Rattle.usb_session.specs.Served.{ClosedEndpoint, closed_endpoints, IsServedInOrder, EndpointsAreServedInOrder, ScriptsAreCounted, closed_as, tickets_of_all, closed_under, client_closed_as, client_closed_under, closed_by_call, closed_by, messaged_at_end, read_at_end, written_at_end, closed_at_end, closed_endpoints_from, control_ticket, control_tickets_from, control_tickets, lines_behind}
 use Rattle.usb_session.specs.Fates.{fate_lines, fate_lines_from}
 use Rattle.usb_session.specs.FinalFates.{FatesOfScripts}
 use Rattle.usb_session.specs.Sums.{counts_of}
 use Rattle.usb_session.proofs.FateLemmas.{fates-final}
-use Rattle.usb_session.proofs.Does.{Quiet, Closing, Shuts, name_counts, quiet-same, quiet-then}
+use Rattle.usb_session.proofs.Views.{IsAmong, name_counts, view_of}
+use Rattle.usb_session.proofs.Does.{Quiet, Closing, Fewer, Shuts, quiet-same, quiet-then}
 use Rattle.usb_session.proofs.EndpointLines.{closed-does, closed-shuts}
 use Rattle.usb_session.proofs.ReaderDoes.{reader_closed-does, reader_closed-shuts}
 use Rattle.usb_session.proofs.WriterDoes.{writer_closed-does, writer_closed-shuts}
+use Rattle.usb_session.proofs.ClientDoes.{client_closed-does, client_writer-shuts, client_reader-shuts}
 use Rattle.usb_session.proofs.DeviceLines.{handles-quiet}
-use Rattle.usb_session_calls.proofs.EndpointNameLemmas.{Changed, cases_name, changed-gone}
 use Rattle.usb_session.proofs.RunLemmas.{none-start, no-future_start}
-use Rattle.usb_session.proofs.TimesLemmas.{times, times-append, counts-times, among, among-within, times_open, IsAmong, among-names, open-none, awaited-none}
+use Rattle.usb_session.proofs.TimesLemmas.{times, times-append, counts-times, among, among-within, times_open, open-none, awaited-none}
 use Rattle.usb_session.proofs.OrderLemmas.{Leaves, LeavesTickets, goes-then, closed-taken, closed-others}
 use Rattle.usb_session.proofs.StepLemmas.{Inv, Step, Closes, closes-on, all-tickets, step-then, step-after, step-quiet, acts-step, answer-step, below-step, future_closed-step}
 use Rattle.usb_session.proofs.PrintLemmas.{Prints, prints-stay, AllPrint, all-print}
 use Rattle.usb_session.proofs.TakeLemmas.{answer-takes}
 
--- the end closes readers, writers and endpoints by number
-pub readers-step : (state : State) (lines : EndpointName → List (List ℕ)) (k : ℕ) → Inv state → Step state (readers_closed state k) (read_at_end state lines k) []
-readers-step = below-step reader_closed OfReader reader_closed-does
+-- what is open under a name of a reader, of a writer and under its own, where it is closed
+abbrev pub readers_shut : State → (EndpointName → List (List ℕ)) → ℕ → List ClosedEndpoint
+readers_shut s lines n = closed_under s lines (OfReader n)
 
-pub writers-step : (state : State) (lines : EndpointName → List (List ℕ)) (k : ℕ) → Inv state → Step state (writers_closed state k) (written_at_end state lines k) []
-writers-step = below-step writer_closed OfWriter writer_closed-does
+abbrev pub writers_shut : State → (EndpointName → List (List ℕ)) → ℕ → List ClosedEndpoint
+writers_shut s lines n = closed_under s lines (OfWriter n)
 
-pub ends-step : (state : State) (lines : EndpointName → List (List ℕ)) (k : ℕ) → Inv state → Step state (endpoints_closed state k) (closed_at_end state lines k) []
-ends-step = below-step closed Own closed-does
+abbrev pub own_shut : State → (EndpointName → List (List ℕ)) → ℕ → List ClosedEndpoint
+own_shut s lines n = closed_under s lines (Own n)
+
+-- the end closes clients, readers, writers and endpoints by number
+pub clients-step : (state : State) (lines : EndpointName → List (List ℕ)) (k : ℕ) → Inv (view_of state) → Step (view_of state) (view_of (clients_closed state k)) (messaged_at_end state lines k) []
+clients-step = below-step client_closed client_closed_under client_closed-does
+
+pub readers-step : (state : State) (lines : EndpointName → List (List ℕ)) (k : ℕ) → Inv (view_of state) → Step (view_of state) (view_of (readers_closed state k)) (read_at_end state lines k) []
+readers-step = below-step reader_closed readers_shut reader_closed-does
+
+pub writers-step : (state : State) (lines : EndpointName → List (List ℕ)) (k : ℕ) → Inv (view_of state) → Step (view_of state) (view_of (writers_closed state k)) (written_at_end state lines k) []
+writers-step = below-step writer_closed writers_shut writer_closed-does
+
+pub ends-step : (state : State) (lines : EndpointName → List (List ℕ)) (k : ℕ) → Inv (view_of state) → Step (view_of state) (view_of (endpoints_closed state k)) (closed_at_end state lines k) []
+ends-step = below-step closed own_shut closed-does
+
+-- all of them, one kind after another
+pub streams-step : (state : State) (lines : EndpointName → List (List ℕ)) → Inv (view_of state)
+    → Step (view_of state) (view_of (streams_closed state)) (messaged_at_end state lines 64 ++ read_at_end (clients_closed state 64) lines 64 ++ written_at_end (readers_closed (clients_closed state 64) 64) lines 64) []
+streams-step state lines inv =
+    let messaged = clients_closed state 64 in
+    let first = clients-step state lines 64 inv in
+    let second = step-then first (readers-step messaged lines 64 first.inv) in
+    step-then second (writers-step (readers_closed messaged 64) lines 64 second.inv)
 
 -- and leaves no name open
-none-stays : {old new : EndpointName → Option Endpoint} {e : EndpointName} (d : EndpointName) → Changed old new e None → old d ≡ None → new d ≡ None
-none-stays {new = new} {e} d gone none = elim (cases_name d e) [ inl same ↦ ap new same ∙ gone.here | inr apart ↦ gone.others d apart ∙ none ]
+none-stays : {old new : EndpointName → Option Endpoint} (d : EndpointName) → Fewer old new → old d ≡ None → new d ≡ None
+none-stays d fewer none = elim (fewer d) [ inl same ↦ same ∙ none | inr gone ↦ gone ]
 
 module _ (act : State → ℕ → State) (name : ℕ → EndpointName) (shuts : Shuts act name) where
   below-stays : (state : State) (k : ℕ) (d : EndpointName) → endpoint_under state d ≡ None → endpoint_under (below act state k) d ≡ None
   below-stays state zero d none = none
-  below-stays state (suc k) d none = none-stays d (shuts (below act state k) k) (below-stays state k d none)
+  below-stays state (suc k) d none = none-stays d (shuts.fewer (below act state k) k) (below-stays state k d none)
 
   below-none : (state : State) (k n : ℕ) → n < k → endpoint_under (below act state k) (name n) ≡ None
   below-none state zero n few = absurd (omega arith)
   below-none state (suc k) n few =
-      let gone = shuts (below act state k) k in
       elim (cases_eq n k) [
-        | inl same ↦ ap (λ m. endpoint_under (below act state (suc k)) (name m)) same ∙ gone.here
-        | inr apart ↦ none-stays (name n) gone (below-none state k n (lower k n apart few))
+        | inl same ↦ ap (λ m. endpoint_under (below act state (suc k)) (name m)) same ∙ shuts.gone (below act state k) k
+        | inr apart ↦ none-stays (name n) (shuts.fewer (below act state k) k) (below-none state k n (lower k n apart few))
       ]
     where
       lower : (k n : ℕ) → n ≢ k → n < suc k → n < k
@@ -87,8 +111,11 @@ module _ (act : State → ℕ → State) (name : ℕ → EndpointName) (shuts : 
 
 -- so in the end no endpoint is open
 module _ (state : State) where
+  abbrev messaged : State
+  messaged = clients_closed state 64
+
   abbrev read : State
-  read = readers_closed state 64
+  read = readers_closed messaged 64
 
   abbrev written : State
   written = writers_closed read 64
@@ -96,21 +123,28 @@ module _ (state : State) where
   abbrev last : State
   last = endpoints_closed written 64
 
-  none-among : (e : EndpointName) → IsAmong (record { own = 64; readers = 64; writers = 64 }) e → endpoint_under last e ≡ None
+  from-messaged : (d : EndpointName) → endpoint_under messaged d ≡ None → endpoint_under last d ≡ None
+  from-messaged d none =
+      below-stays closed Own closed-shuts written 64 d
+      (below-stays writer_closed OfWriter writer_closed-shuts read 64 d (below-stays reader_closed OfReader reader_closed-shuts messaged 64 d none))
+
+  none-among : (e : EndpointName) → IsAmong (record { own = 64; readers = 64; writers = 64; clients = 64 }) e → endpoint_under last e ≡ None
   none-among (Own e) few = below-none closed Own closed-shuts written 64 e few
   none-among (OfReader r) few =
-      below-stays closed Own closed-shuts written 64 (OfReader r) (below-stays writer_closed OfWriter writer_closed-shuts read 64 (OfReader r) (below-none reader_closed OfReader reader_closed-shuts state 64 r few))
+      below-stays closed Own closed-shuts written 64 (OfReader r) (below-stays writer_closed OfWriter writer_closed-shuts read 64 (OfReader r) (below-none reader_closed OfReader reader_closed-shuts messaged 64 r few))
   none-among (OfWriter w) few = below-stays closed Own closed-shuts written 64 (OfWriter w) (below-none writer_closed OfWriter writer_closed-shuts read 64 w few)
+  none-among (OfClientWriter m) few = from-messaged (OfClientWriter m) (below-none client_closed OfClientWriter client_writer-shuts state 64 m few)
+  none-among (OfClientReader m) few = from-messaged (OfClientReader m) (below-none client_closed OfClientReader client_reader-shuts state 64 m few)
 
-  none-open : name_counts last ≡ record { own = 64; readers = 64; writers = 64 } → (e : EndpointName) → endpoint_under last e ≡ None
+  none-open : name_counts last ≡ record { own = 64; readers = 64; writers = 64; clients = 64 } → (e : EndpointName) → endpoint_under last e ≡ None
   none-open names e = by (endpoint_under last e) refl
     where
       by : (o : Option Endpoint) → endpoint_under last e ≡ o → endpoint_under last e ≡ None
       by None is = is
-      by (Some h) is = none-among e (subst (λ c. IsAmong c e) names (among-names last e h is))
+      by (Some h) is = none-among e (subst (λ c. IsAmong c e) names ((view_of last).within e h is))
 
 -- futures are closed, and endpoints stay
-pub futures-step : (state : State) (k : ℕ) → Inv state → Step state (futures_closed state k) [] []
+pub futures-step : (state : State) (k : ℕ) → Inv (view_of state) → Step (view_of state) (view_of (futures_closed state k)) [] []
 futures-step state zero inv = step-quiet inv (quiet-same state)
 futures-step state (suc k) inv = let first = futures-step state k inv in step-then first (future_closed-step (futures_closed state k) k first.inv)
 
@@ -135,7 +169,7 @@ reaped_below-count h (suc n) = count-trans h (reaped_below h n) (host_reaped (re
 abbrev pub finished_at : State → State
 finished_at state = with_host (devices_closed (interfaces_closed state 64) 64) (finished (devices_closed (interfaces_closed state 64) 64).host)
 
-pub end-quiet : (state : State) → Quiet state (finished_at state)
+pub end-quiet : (state : State) → Quiet (view_of state) (view_of (finished_at state))
 unfolding finished
 end-quiet state =
     let last = (devices_closed (interfaces_closed state 64) 64).host in
@@ -145,25 +179,22 @@ end-quiet state =
     (record { keeps = on-finished last; count = count-trans last discarded (reaped_below discarded n) (discarded_below-count last n) (reaped_below-count discarded n); endpoints = λ e. refl; names = refl; futures = refl })
 
 -- what is done at the end once the endpoints are closed
-last-step : (state : State) → Inv state → Step state (finished_at (futures_closed state 64)) [] []
+last-step : (state : State) → Inv (view_of state) → Step (view_of state) (view_of (finished_at (futures_closed state 64))) [] []
 last-step state inv = let first = futures-step state 64 inv in step-after first (step-quiet first.inv (end-quiet (futures_closed state 64)))
 
 -- what these items and the end of the session make
 record Runs (state : State) (lines : EndpointName → List (List ℕ)) (items : List Item) : Type 0 where
   goes : LeavesTickets state.host (last_host state items)
   closes : All (Closes (last_host state items)) (closed_endpoints_from state lines items)
-  adds : (t : ℕ) → times t (tickets_of_all (closed_endpoints_from state lines items)) + times t (control_tickets_from state items) + among t (tickets_of state) ≡ times_open t state + among t (length (tickets (last_host state items).kernel.past))
+  adds : (t : ℕ) → times t (tickets_of_all (closed_endpoints_from state lines items)) + times t (control_tickets_from state items) + among t (tickets_of state) ≡ times_open t (view_of state) + among t (length (tickets (last_host state items).kernel.past))
   count : length (last_host state items).tickets ≡ length (tickets (last_host state items).kernel.past)
 
-runs-end : (state : State) (lines : EndpointName → List (List ℕ)) → Inv state → Runs state lines []
+runs-end : (state : State) (lines : EndpointName → List (List ℕ)) → Inv (view_of state) → Runs state lines []
 unfolding ended all_closed
 runs-end state lines inv =
-    let read = readers_closed state 64 in
-    let written = writers_closed read 64 in
-    let mid = endpoints_closed written 64 in
-    let readers = readers-step state lines 64 inv in
-    let streams = step-then readers (writers-step read lines 64 readers.inv) in
-    let first = step-then streams (ends-step written lines 64 streams.inv) in
+    let streams = streams-step state lines inv in
+    let mid = endpoints_closed (streams_closed state) 64 in
+    let first = step-then streams (ends-step (streams_closed state) lines 64 streams.inv) in
     let last = last-step mid first.inv in
     let all = step-after first last in
     record {
@@ -171,11 +202,11 @@ runs-end state lines inv =
       closes = all.closes;
       adds = λ t.
           let whole = all.adds t in
-          let none = open-none t (finished_at (futures_closed mid 64)) (λ e. (end-quiet (futures_closed mid 64)).endpoints e ∙ futures-endpoints mid 64 e ∙ none-open state first.inv.names e) in omega arith;
+          let none = open-none t (view_of (finished_at (futures_closed mid 64))) (λ e. (end-quiet (futures_closed mid 64)).endpoints e ∙ futures-endpoints mid 64 e ∙ none-open state first.inv.names e) in omega arith;
       count = all.inv.count;
     }
 
-runs : (state : State) (lines : EndpointName → List (List ℕ)) (items : List Item) → Inv state → Runs state lines items
+runs : (state : State) (lines : EndpointName → List (List ℕ)) (items : List Item) → Inv (view_of state) → Runs state lines items
 runs state lines [] inv = runs-end state lines inv
 runs state lines (item ∷ items) inv =
     let next = (answer state item).state in
@@ -194,7 +225,7 @@ runs state lines (item ∷ items) inv =
     }
 
 -- the beginning
-names-start : (items : List Item) → name_counts (start items) ≡ record { own = 64; readers = 64; writers = 64 }
+names-start : (items : List Item) → name_counts (start items) ≡ record { own = 64; readers = 64; writers = 64; clients = 64 }
 unfolding start
 names-start items = refl
 
@@ -202,10 +233,10 @@ no-tickets_start : (items : List Item) → (length (start items).host.tickets �
 unfolding start
 no-tickets_start items = (refl, refl)
 
-nothing-open : (items : List Item) (t : ℕ) → times_open t (start items) ≡ 0
-nothing-open items t = open-none t (start items) (none-start items)
+nothing-open : (items : List Item) (t : ℕ) → times_open t (view_of (start items)) ≡ 0
+nothing-open items t = open-none t (view_of (start items)) (none-start items)
 
-pub inv-start : (items : List Item) → Inv (start items)
+pub inv-start : (items : List Item) → Inv (view_of (start items))
 inv-start items =
     let count = no-tickets_start items in
     record {
@@ -215,6 +246,7 @@ inv-start items =
       count = count.0 ∙ sym count.1;
       names = names-start items;
       read = λ e h is stream. absurd (none-some h (sym (none-start items e) ∙ is));
+      some = λ e h is. absurd (none-some h (sym (none-start items e) ∙ is));
     }
 
 -- what was printed of the endpoints that are closed, and of which no reader or writer was made
@@ -231,10 +263,24 @@ closed_as-printed past lines (Some h) prints = All-cons (Printed past) (record {
 closed_under-printed : (state : State) (lines : EndpointName → List (List ℕ)) (e : EndpointName) → AllPrint state lines → All (Printed state.host.kernel.past) (closed_under state lines e)
 closed_under-printed state lines e prints = closed_as-printed state.host.kernel.past (lines e) (endpoint_under state e) (λ h is. prints e h is)
 
+-- of those of a client nothing was
+client_as-printed : (past : List Event) (h : HostState) (lines : EndpointName → List (List ℕ)) (m : ℕ) (o : Option Client) → All (Printed past) (client_closed_as h lines m o)
+client_as-printed past h lines m None = All-nil (Printed past)
+client_as-printed past h lines m (Some x) =
+    let out : ClosedEndpoint = record { endpoint = endpoint_of_client_writer x; past = h.kernel.past; lines = lines (OfClientWriter m) } in
+    let after = (after_close host_calls h x.state.writer.endpoint).kernel.past in
+    let inp : ClosedEndpoint = record { endpoint = endpoint_of_client_reader x; past = after; lines = lines (OfClientReader m) } in
+    All-cons (Printed past) out (inp ∷ []) (λ unread. absurd (let wrong : true ≡ false = unread in cc))
+    (All-cons (Printed past) inp [] (λ unread. absurd (let wrong : true ≡ false = unread in cc)) (All-nil (Printed past)))
+
+client-printed : (state : State) (lines : EndpointName → List (List ℕ)) (m : ℕ) → AllPrint state lines → All (Printed state.host.kernel.past) (client_closed_under state lines m)
+client-printed state lines m prints = client_as-printed state.host.kernel.past state.host lines m (named state.clients m)
+
 closed_by_call-printed : (state : State) (lines : EndpointName → List (List ℕ)) (call : Call) → AllPrint state lines → All (Printed state.host.kernel.past) (closed_by_call state lines call)
 closed_by_call-printed state lines (Close (closes.Endpoint e)) prints = closed_under-printed state lines (Own e) prints
 closed_by_call-printed state lines (Close (closes.Reader r)) prints = closed_under-printed state lines (OfReader r) prints
 closed_by_call-printed state lines (Close (closes.Writer w)) prints = closed_under-printed state lines (OfWriter w) prints
+closed_by_call-printed state lines (Close (closes.Client m)) prints = client-printed state lines m prints
 closed_by_call-printed state lines call prints = All-nil (Printed state.host.kernel.past)
 
 closed_by-printed : (state : State) (lines : EndpointName → List (List ℕ)) (item : Item) → AllPrint state lines → All (Printed state.host.kernel.past) (closed_by state lines item)
@@ -243,56 +289,65 @@ closed_by-printed state lines item prints =
     (λ yes_. All-nil (Printed state.host.kernel.past)) (λ no_. closed_by_call-printed state lines (call_of item) prints)
 
 -- a close leaves what was printed of others
-closed-prints : (state next : State) (e : EndpointName) (lines : EndpointName → List (List ℕ)) → Changed (endpoint_under state) (endpoint_under next) e None → Extends state.host.kernel.past next.host.kernel.past → AllPrint state lines → AllPrint next lines
-closed-prints state next e lines gone extends prints d g is unread =
-    let was = changed-gone (endpoint_under state) (endpoint_under next) e d g gone is in
-    prints-stay state.host.kernel.past next.host.kernel.past g.taken (lines d) extends (prints d g was.1 unread)
+closed-prints : (state next : State) (lines : EndpointName → List (List ℕ)) → Fewer (endpoint_under state) (endpoint_under next) → Extends state.host.kernel.past next.host.kernel.past → AllPrint state lines → AllPrint next lines
+closed-prints state next lines fewer extends prints d g is unread =
+    let was : endpoint_under state d ≡ Some g = elim (fewer d) [ inl same ↦ sym same ∙ is | inr gone ↦ absurd (none-some g (sym gone ∙ is)) ] in
+    prints-stay state.host.kernel.past next.host.kernel.past g.taken (lines d) extends (prints d g was unread)
 
 -- and one more is closed
-closed-printed : (state next : State) (e : EndpointName) (lines : EndpointName → List (List ℕ)) (before : List ClosedEndpoint) → Extends state.host.kernel.past next.host.kernel.past → AllPrint state lines → All (Printed state.host.kernel.past) before
-    → All (Printed next.host.kernel.past) (before ++ closed_under state lines e)
-closed-printed state next e lines before extends prints shut =
-    let past = state.host.kernel.past in
-    printed-on past next.host.kernel.past (before ++ closed_under state lines e) extends (All-append (Printed past) before (closed_under state lines e) shut (closed_under-printed state lines e prints))
+closed-printed : (state next : State) (before more : List ClosedEndpoint) → Extends state.host.kernel.past next.host.kernel.past → All (Printed state.host.kernel.past) before → All (Printed state.host.kernel.past) more
+    → All (Printed next.host.kernel.past) (before ++ more)
+closed-printed state next before more extends shut now =
+    printed-on state.host.kernel.past next.host.kernel.past (before ++ more) extends (All-append (Printed state.host.kernel.past) before more shut now)
 
 -- what was printed of those that are open, and of those that are closed
 record EndPrints (state : State) (lines : EndpointName → List (List ℕ)) (shut : List ClosedEndpoint) : Type 0 where
   open_ : AllPrint state lines
   shut_ : All (Printed state.host.kernel.past) shut
 
-below-print : (act : State → ℕ → State) (name : ℕ → EndpointName) → Shuts act name → Closing act name → (state : State) (lines : EndpointName → List (List ℕ)) (k : ℕ) → Inv state → AllPrint state lines
-    → EndPrints (below act state k) lines (given_below act (λ s n. closed_under s lines (name n)) state k)
-below-print act name shuts closing state lines zero inv prints = record { open_ = prints; shut_ = All-nil (Printed state.host.kernel.past) }
-below-print act name shuts closing state lines (suc k) inv prints =
+-- what is closed under a name was printed so
+abbrev ShutPrints : (State → (EndpointName → List (List ℕ)) → ℕ → List ClosedEndpoint) → Type 0
+ShutPrints shut = (state : State) (lines : EndpointName → List (List ℕ)) (n : ℕ) → AllPrint state lines → All (Printed state.host.kernel.past) (shut state lines n)
+
+below-print : (act : State → ℕ → State) (name : ℕ → EndpointName) (shut : State → (EndpointName → List (List ℕ)) → ℕ → List ClosedEndpoint) → Shuts act name → Closing act shut → ShutPrints shut
+    → (state : State) (lines : EndpointName → List (List ℕ)) (k : ℕ) → Inv (view_of state) → AllPrint state lines
+    → EndPrints (below act state k) lines (given_below act (λ s n. shut s lines n) state k)
+below-print act name shut shuts closing printed state lines zero inv prints = record { open_ = prints; shut_ = All-nil (Printed state.host.kernel.past) }
+below-print act name shut shuts closing printed state lines (suc k) inv prints =
     let mid = below act state k in
     let next = act mid k in
-    let before = given_below act (λ s n. closed_under s lines (name n)) state k in
-    let p = below-print act name shuts closing state lines k inv prints in
-    let extends = (acts-step (closing mid k lines) (below-step act name closing state lines k inv).inv).goes.past in
+    let before = given_below act (λ s n. shut s lines n) state k in
+    let p = below-print act name shut shuts closing printed state lines k inv prints in
+    let extends = (acts-step (closing mid k lines) (below-step act shut closing state lines k inv).inv).goes.past in
     record {
-      open_ = closed-prints mid next (name k) lines (shuts mid k) extends p.open_;
-      shut_ = closed-printed mid next (name k) lines before extends p.open_ p.shut_;
+      open_ = closed-prints mid next lines (shuts.fewer mid k) extends p.open_;
+      shut_ = closed-printed mid next before (shut mid lines k) extends p.shut_ (printed mid lines k p.open_);
     }
 
-runs-print : (state : State) (lines : EndpointName → List (List ℕ)) (items : List Item) → Inv state → AllPrint state lines → All (Printed (last_host state items).kernel.past) (closed_endpoints_from state lines items)
+runs-print : (state : State) (lines : EndpointName → List (List ℕ)) (items : List Item) → Inv (view_of state) → AllPrint state lines → All (Printed (last_host state items).kernel.past) (closed_endpoints_from state lines items)
 unfolding ended all_closed
 runs-print state lines [] inv prints =
-    let read = readers_closed state 64 in
-    let written = writers_closed read 64 in
-    let mid = endpoints_closed written 64 in
-    let readers = readers-step state lines 64 inv in
-    let writers = writers-step read lines 64 readers.inv in
-    let ends = ends-step written lines 64 writers.inv in
-    let last = last-step mid ends.inv in
-    let first = below-print reader_closed OfReader reader_closed-shuts reader_closed-does state lines 64 inv prints in
-    let second = below-print writer_closed OfWriter writer_closed-shuts writer_closed-does read lines 64 readers.inv first.open_ in
-    let third = below-print closed Own closed-shuts closed-does written lines 64 writers.inv second.open_ in
+    let messaged_ = clients_closed state 64 in
+    let read_ = readers_closed messaged_ 64 in
+    let written_ = writers_closed read_ 64 in
+    let mid = endpoints_closed written_ 64 in
+    let clients = clients-step state lines 64 inv in
+    let readers = readers-step messaged_ lines 64 clients.inv in
+    let writers = writers-step read_ lines 64 readers.inv in
+    let ends = ends-step written_ lines 64 writers.inv in
+    let last_ = last-step mid ends.inv in
+    let zero_ = below-print client_closed OfClientWriter client_closed_under client_writer-shuts client_closed-does client-printed state lines 64 inv prints in
+    let first = below-print reader_closed OfReader readers_shut reader_closed-shuts reader_closed-does (λ s l n. closed_under-printed s l (OfReader n)) messaged_ lines 64 clients.inv zero_.open_ in
+    let second = below-print writer_closed OfWriter writers_shut writer_closed-shuts writer_closed-does (λ s l n. closed_under-printed s l (OfWriter n)) read_ lines 64 readers.inv first.open_ in
+    let third = below-print closed Own own_shut closed-shuts closed-does (λ s l n. closed_under-printed s l (Own n)) written_ lines 64 writers.inv second.open_ in
     let past = (ended state).kernel.past in
-    All-append (Printed past) (read_at_end state lines 64 ++ written_at_end read lines 64) (closed_at_end written lines 64)
-    (All-append (Printed past) (read_at_end state lines 64) (written_at_end read lines 64)
-    (printed-on read.host.kernel.past past (read_at_end state lines 64) (step-after (step-then writers ends) last).goes.past first.shut_)
-    (printed-on written.host.kernel.past past (written_at_end read lines 64) (step-after ends last).goes.past second.shut_))
-    (printed-on mid.host.kernel.past past (closed_at_end written lines 64) last.goes.past third.shut_)
+    All-append (Printed past) (messaged_at_end state lines 64 ++ read_at_end messaged_ lines 64 ++ written_at_end read_ lines 64) (closed_at_end written_ lines 64)
+    (All-append (Printed past) (messaged_at_end state lines 64 ++ read_at_end messaged_ lines 64) (written_at_end read_ lines 64)
+    (All-append (Printed past) (messaged_at_end state lines 64) (read_at_end messaged_ lines 64)
+    (printed-on messaged_.host.kernel.past past (messaged_at_end state lines 64) (step-after (step-then readers (step-then writers ends)) last_).goes.past zero_.shut_)
+    (printed-on read_.host.kernel.past past (read_at_end messaged_ lines 64) (step-after (step-then writers ends) last_).goes.past first.shut_))
+    (printed-on written_.host.kernel.past past (written_at_end read_ lines 64) (step-after ends last_).goes.past second.shut_))
+    (printed-on mid.host.kernel.past past (closed_at_end written_ lines 64) last_.goes.past third.shut_)
 runs-print state lines (item ∷ items) inv prints =
     let a = answer state item in
     let over = answer-step state lines item inv in
@@ -305,7 +360,7 @@ none-print : (items : List Item) (lines : EndpointName → List (List ℕ)) → 
 none-print items lines e h is unread = absurd (none-some h (sym (none-start items e) ∙ is))
 
 -- each ticket of the last host stands once
-handles-once : (state : State) (lines : EndpointName → List (List ℕ)) (items : List Item) (t : ℕ) → times_open t state ≡ 0 → tickets_of state ≡ 0 → Runs state lines items → t < length (last_host state items).tickets → count_by (λ u. u == t) (tickets_of_all (closed_endpoints_from state lines items) ++ control_tickets_from state items) ≡ 1
+handles-once : (state : State) (lines : EndpointName → List (List ℕ)) (items : List Item) (t : ℕ) → times_open t (view_of state) ≡ 0 → tickets_of state ≡ 0 → Runs state lines items → t < length (last_host state items).tickets → count_by (λ u. u == t) (tickets_of_all (closed_endpoints_from state lines items) ++ control_tickets_from state items) ≡ 1
 handles-once state lines items t none few run within =
     let all = run.adds t in
     let before : among t (tickets_of state) ≡ 0 = ap (among t) few in
@@ -351,7 +406,7 @@ fates-of_scripts items ends reaped =
     }
 
 -- what came before any line
-inv-behind : (state : State) (items : List Item) → Inv state → Inv (behind state items)
+pub inv-behind : (state : State) (items : List Item) → Inv (view_of state) → Inv (view_of (behind state items))
 inv-behind state [] inv = inv
 inv-behind state (item ∷ items) inv = inv-behind (answer state item).state items (answer-step state (λ e. []) item inv).inv
 
@@ -364,7 +419,7 @@ leaves-end (Some (Ended was)) p end leaves is = ap (option_and_then ended_at) le
 goes-to : {old new : HostState} → LeavesTickets old new → GoesOnTo old new
 goes-to {old} {new} goes = record { journal = goes.past; ends = λ t end is. leaves-end (slice_get old.tickets t) (slice_get new.tickets t) end (goes.tickets t) is }
 
-pub inv-of : (items before : List Item) → Inv (behind (start items) before)
+pub inv-of : (items before : List Item) → Inv (view_of (behind (start items) before))
 inv-of items before = inv-behind (start items) before (inv-start items)
 
 last-behind : (state : State) (before rest : List Item) → last_host state (before ++ rest) ≡ last_host (behind state before) rest
@@ -372,7 +427,7 @@ last-behind state [] rest = refl
 last-behind state (x ∷ xs) rest = last-behind (answer state x).state xs rest
 
 -- the host goes on to the last
-pub runs-go : (state : State) (items : List Item) → Inv state → LeavesTickets state.host (last_host state items)
+pub runs-go : (state : State) (items : List Item) → Inv (view_of state) → LeavesTickets state.host (last_host state items)
 runs-go state items inv = (runs state (λ e. []) items inv).goes
 
 -- also from behind each line

@@ -26,7 +26,7 @@ some-mapped f (Some x) = refl
 
 -- each of the names is seen so
 module _ {X Y : Type 0} (v : X → Y) (xs : List (Option X)) (ys : List (Option Y)) (kept : ys ≡ map (option_map v) xs) (n : ℕ) where
-  seen : option_map v (named xs n) ≡ named ys n
+  pub seen : option_map v (named xs n) ≡ named ys n
   seen = sym (ap (λ l. named l n) kept ∙ named-map v xs n)
 
   pub kept-at : (y : Y) → named ys n ≡ Some y → KeptAt v xs n y

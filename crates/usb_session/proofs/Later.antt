@@ -21,23 +21,27 @@ use Rattle.usb_device.specs.Futures.{FutureState}
 use Rattle.usb_device.proofs.FutureFrames.{stays-closed}
 use Rattle.usb_io.specs.Readers.{ReaderState}
 use Rattle.usb_io.specs.Writers.{WriterState}
+use Rattle.usb_msg.specs.Clients.{ClientState}
+use Rattle.usb_device_endpoint.specs.Closes.{after_close}
+use Rattle.usb_device_host.specs.HostCalls.{host_calls}
 use Rattle.usb_session_calls.specs.declared.call.DeviceCall.{DeviceCall}
 use Rattle.usb_session_calls.specs.declared.call.DeviceCall.TheVariants.{Descriptor, Descriptors, ActiveConfiguration, Speed, SetConfiguration, Reset, DetachDriver, AttachDriver}
 use Rattle.usb_session_calls.specs.declared.call.InterfaceCall.{InterfaceCall}
 use Rattle.usb_session_calls.specs.declared.call.InterfaceCall.TheVariants as on
 use Rattle.usb_session_calls.specs.Names.{named}
-use Rattle.usb_session_calls.specs.State.{State, Endpoint, Reader, Writer}
+use Rattle.usb_session_calls.specs.State.{State, Endpoint, Reader, Writer, Client}
 use Rattle.usb_session_calls.specs.OpenAt.{DeviceAt, interface_with}
 use Rattle.usb_session_calls.specs.DeviceCalls.{device_called}
 use Rattle.usb_session_calls.specs.InterfaceCalls.{interface_called}
 use Rattle.usb_session_calls.specs.Closes.{closed, closed_at}
 use Rattle.usb_session_calls.specs.Readers.{reader_closed, reader_closed_at}
 use Rattle.usb_session_calls.specs.Writers.{writer_closed, writer_closed_at}
+use Rattle.usb_session_calls.specs.Clients.{client_closed, client_closed_at}
 use Rattle.usb_session_calls.specs.Steps.{stepped_all}
 use Rattle.usb_session_calls.specs.SessionState.{SessionState}
 use Rattle.usb_session_calls.specs.Relation.{Represents}
 use Rattle.usb_session.specs.Below.{below}
-use Rattle.usb_session.specs.Ends.{future_closed_at, future_closed_under, interface_closed_at, interface_closed, device_closed_at, name_closed, readers_closed, writers_closed, endpoints_closed, futures_closed, interfaces_closed, devices_closed, all_closed, ended}
+use Rattle.usb_session.specs.Ends.{future_closed_at, future_closed_under, interface_closed_at, interface_closed, device_closed_at, name_closed, clients_closed, readers_closed, writers_closed, endpoints_closed, futures_closed, interfaces_closed, devices_closed, all_closed, ended}
 use Rattle.usb_session_calls.proofs.Answering.{host_is}
 use Rattle.usb_session_calls.proofs.DeviceHosts.{asked-aside, speed-aside, configured-aside, reset-handles, detached-aside, attached-aside}
 use Rattle.usb_session_calls.proofs.HandleHosts.{KeepsBeside, setting-keeps}
@@ -103,6 +107,9 @@ fresh_reader x = record { state = x; before = []; taken = []; given = []; consum
 fresh_writer : WriterState → Writer
 fresh_writer x = record { state = x; taken = []; calls = None }
 
+fresh_client : ClientState → Client
+fresh_client x = record { state = x; before_out = []; sent = []; before_in = []; received = []; requests = []; responses = [] }
+
 seen-back : {X Y : Type 0} (see : X → Y) (make : Y → X) → ((y : Y) → see (make y) ≡ y) → (o : Option Y) → option_map see (option_map make o) ≡ o
 seen-back see make back None = refl
 seen-back see make back (Some y) = ap (λ z. Some z) (back y)
@@ -120,20 +127,22 @@ state_behind s =
       endpoints = map (option_map fresh_endpoint) s.endpoints;
       readers = map (option_map fresh_reader) s.readers;
       writers = map (option_map fresh_writer) s.writers;
+      clients = map (option_map fresh_client) s.clients;
       futures = s.futures;
       tree = s.tree;
       packets = s.packets;
     }
 
-same-parts : (s : SessionState) (es : List (Option EndpointState)) (rs : List (Option ReaderState)) (ws : List (Option WriterState)) → es ≡ s.endpoints → rs ≡ s.readers → ws ≡ s.writers → s ≡ record s { endpoints = es; readers = rs; writers = ws }
-same-parts s es rs ws endpoints readers writers = rw (endpoints, readers, writers) refl
+same-parts : (s : SessionState) (es : List (Option EndpointState)) (rs : List (Option ReaderState)) (ws : List (Option WriterState)) (cs : List (Option ClientState)) → es ≡ s.endpoints → rs ≡ s.readers → ws ≡ s.writers → cs ≡ s.clients → s ≡ record s { endpoints = es; readers = rs; writers = ws; clients = cs }
+same-parts s es rs ws cs endpoints readers writers clients = rw (endpoints, readers, writers, clients) refl
 
 stands-behind : (s : SessionState) → Represents s (state_behind s)
-unfolding state_behind fresh_endpoint fresh_reader fresh_writer
+unfolding state_behind fresh_endpoint fresh_reader fresh_writer fresh_client
 stands-behind s =
-    same-parts s _ _ _ (all-back (λ (x : Endpoint). x.state) fresh_endpoint (λ y. refl) s.endpoints)
+    same-parts s _ _ _ _ (all-back (λ (x : Endpoint). x.state) fresh_endpoint (λ y. refl) s.endpoints)
     (all-back (λ (x : Reader). x.state) fresh_reader (λ y. refl) s.readers)
     (all-back (λ (x : Writer). x.state) fresh_writer (λ y. refl) s.writers)
+    (all-back (λ (x : Client). x.state) fresh_client (λ y. refl) s.clients)
 
 -- so what takes each such state to one whose journal goes on has the session's journal go on
 abbrev pub GoesOn : (State → State) → Type 0
@@ -177,6 +186,16 @@ pub writer_closed-goes : (w : ℕ) → GoesOn (λ state. writer_closed state w)
 unfolding writer_closed
 writer_closed-goes w state = writer_closed_at-goes state w (named state.writers w)
 
+client_closed_at-goes : (state : State) (m : ℕ) (o : Option Client) → Extends state.host.kernel.past (client_closed_at state m o).host.kernel.past
+client_closed_at-goes state m None = extends-same state.host.kernel.past
+client_closed_at-goes state m (Some x) =
+    let mid = after_close host_calls state.host x.state.writer.endpoint in
+    extends-trans state.host.kernel.past mid.kernel.past (after_close host_calls mid x.state.reader.endpoint).kernel.past (left-past state.host x.state.writer.endpoint) (left-past mid x.state.reader.endpoint)
+
+pub client_closed-goes : (m : ℕ) → GoesOn (λ state. client_closed state m)
+unfolding client_closed
+client_closed-goes m state = client_closed_at-goes state m (named state.clients m)
+
 future_closed_at-goes : (state : State) (n : ℕ) (o : Option FutureState) → Extends state.host.kernel.past (future_closed_at state n o).host.kernel.past
 future_closed_at-goes state n None = extends-same state.host.kernel.past
 future_closed_at-goes state n (Some f) = (stays-closed state.host f).past
@@ -212,18 +231,20 @@ below-goes act goes (suc k) state =
 all_closed-goes : GoesOn all_closed
 unfolding all_closed
 all_closed-goes state =
-    let read = readers_closed state 64 in
+    let messaged = clients_closed state 64 in
+    let read = readers_closed messaged 64 in
     let written = writers_closed read 64 in
     let closed_ = endpoints_closed written 64 in
     let parted = futures_closed closed_ 64 in
     let released = interfaces_closed parted 64 in
     let last = devices_closed released 64 in
-    extends-trans state.host.kernel.past read.host.kernel.past last.host.kernel.past (below-goes reader_closed reader_closed-goes 64 state)
+    extends-trans state.host.kernel.past messaged.host.kernel.past last.host.kernel.past (below-goes client_closed client_closed-goes 64 state)
+    (extends-trans messaged.host.kernel.past read.host.kernel.past last.host.kernel.past (below-goes reader_closed reader_closed-goes 64 messaged)
     (extends-trans read.host.kernel.past written.host.kernel.past last.host.kernel.past (below-goes writer_closed writer_closed-goes 64 read)
     (extends-trans written.host.kernel.past closed_.host.kernel.past last.host.kernel.past (below-goes closed closed-goes 64 written)
     (extends-trans closed_.host.kernel.past parted.host.kernel.past last.host.kernel.past (below-goes future_closed_under future_closed-goes 64 closed_)
     (extends-trans parted.host.kernel.past released.host.kernel.past last.host.kernel.past (below-goes interface_closed interface_closed-goes 64 parted)
-    (below-goes name_closed name_closed-goes 64 released)))))
+    (below-goes name_closed name_closed-goes 64 released))))))
 
 ended-goes : (state : State) → Extends state.host.kernel.past (ended state).kernel.past
 unfolding ended

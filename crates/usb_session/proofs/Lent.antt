@@ -7,7 +7,7 @@ use Rattle.usb_kernel.specs.Extends.{Extends}
 use Rattle.usb_kernel.proofs.Extends.{extends-trans}
 use Rattle.usb_device_endpoint.specs.EndpointState.{EndpointState}
 use Rattle.usb_device_endpoint.specs.Handles.{Stands, KeepsOthers}
-use Rattle.usb_device_endpoint.proofs.Frames.{Stands-later}
+use Rattle.usb_device_endpoint.proofs.Frames.{Stands-later, keeps_others}
 use Rattle.usb_device_host.specs.HostState.{HostState}
 use Rattle.usb_device_host.specs.HostBus.{bus_of}
 use Rattle.usb_device_host.specs.HostFrames.{LineGoesOn}
@@ -15,6 +15,7 @@ use Rattle.usb_device_host.specs.HostTurns.{host_rest}
 use Rattle.usb_device_host.proofs.WaitFrames.{went-rest, rest-steps, rest-spare}
 use Rattle.usb_io.specs.Readers.{ReaderState}
 use Rattle.usb_io.specs.Writers.{WriterState}
+use Rattle.usb_msg.specs.Clients.{ClientState}
 use Rattle.usb_session_calls.specs.State.{State}
 use Rattle.usb_session_calls.specs.Answer.{Answer}
 use Rattle.usb_session_calls.specs.Steps.{with_steps, then_applied, along_steps, stepped_all}
@@ -50,10 +51,9 @@ keeps-lent host now steps past line =
 others-lent : (host now : HostState) (steps : List KernelStep) (key : ℕ) → KeepsOthers (bus_of (lent_host host steps)) (bus_of now) key → KeepsOthers (bus_of host) (bus_of (host_rest now)) key
 others-lent host now steps key others =
     let later = (went-rest now).later in
-    record {
-      tickets = λ t k apart is. ap (λ (f : ℕ → Option ℕ). f t) later.owner ∙ others.tickets t k apart is;
-      keys = λ k apart is. ap (λ (f : ℕ → Bool). f k) later.keys ∙ others.keys k apart is;
-    }
+    keeps_others (bus_of host) (bus_of (host_rest now)) key
+    (λ t k apart is. ap (λ (f : ℕ → Option ℕ). f t) later.owner ∙ others.tickets t k apart is)
+    (λ k apart is. ap (λ (f : ℕ → Bool). f k) later.keys ∙ others.keys k apart is)
 
 none-lent : (host now : HostState) (steps : List KernelStep) → LineGoesOn (lent_host host steps) now → OpensNone host.endpoints (host_rest now).endpoints
 none-lent host now steps line =
@@ -61,11 +61,11 @@ none-lent host now steps line =
     (none-goes now.endpoints (host_rest now).endpoints (went-rest now).line.endpoints)
 
 -- the endpoint of a name was called between
-pub sound-lent : (s : SessionState) (steps : List KernelStep) (at now last : HostState) (es : List (Option EndpointState)) (rs : List (Option ReaderState)) (ws : List (Option WriterState)) (e : EndpointName) (x y : EndpointState) → IsSound s → at ≡ record s.host { steps = steps } → open_under s e ≡ Some x → Replaces s es rs ws e (Some y) → CallKeeps at now x y → last ≡ host_rest now → IsSound (with_open s last es rs ws)
-sound-lent s steps at now last es rs ws e x y sound is was replaces keeps rest =
+pub sound-lent : (s : SessionState) (steps : List KernelStep) (at now last : HostState) (es : List (Option EndpointState)) (rs : List (Option ReaderState)) (ws : List (Option WriterState)) (cs : List (Option ClientState)) (e : EndpointName) (x y : EndpointState) → IsSound s → at ≡ record s.host { steps = steps } → open_under s e ≡ Some x → Replaces s es rs ws cs e (Some y) → CallKeeps at now x y → last ≡ host_rest now → IsSound (with_open s last es rs ws cs)
+sound-lent s steps at now last es rs ws cs e x y sound is was replaces keeps rest =
     let k = rw is at keeps in
     rw rest
-    (sound-put s (host_rest now) es rs ws e x sound was replaces.counts (keeps-lent s.host now steps k.past k.line) (others-lent s.host now steps x.key k.others) (none-lent s.host now steps k.line)
+    (sound-put s (host_rest now) es rs ws cs e x sound was replaces.counts (keeps-lent s.host now steps k.past k.line) (others-lent s.host now steps x.key k.others) (none-lent s.host now steps k.line)
     y replaces.changed (stands-rested now y k.stands) k.key k.maximum
     (of-lent s.host now steps x.key x.pending y.pending k.accounts))
 

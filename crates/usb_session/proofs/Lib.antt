@@ -8,6 +8,7 @@ pub mod Crowds
 pub mod DeviceHandles
 pub mod DeviceLines
 pub mod OpenCode
+pub mod Views
 pub mod Does
 pub mod EndLemmas
 pub mod EndpointLines
@@ -29,6 +30,8 @@ pub mod SumLemmas
 pub mod TakeLemmas
 pub mod TimesLemmas
 pub mod WriterDoes
+pub mod ClientDoes
+pub mod ClientEnds
 pub mod WorkedControls
 pub mod WorkedDevices
 pub mod WorkedEndpoints
@@ -36,6 +39,7 @@ pub mod WorkedHandles
 pub mod WorkedOutput
 pub mod WorkedServed
 pub mod WorkedStreams
+pub mod WorkedClients
 pub mod TreeAnswers
 pub mod TreeLines
 pub mod OtherLines
@@ -52,8 +56,11 @@ pub mod FramedBehind
 pub mod FramedScripts
 pub mod Moves
 pub mod WriterMoves
+pub mod ClientMoves
 pub mod WrittenWriters
 pub mod WrittenLaw
+pub mod ServedClients
+pub mod ClientsLaw
 pub mod PrintedLaw
 pub mod FuturesAwaited
 pub mod ControlCame

@@ -209,7 +209,7 @@ at-left h e u = ap (λ (l : List HostTicket). slice_get l u) (left-tickets (give
 at-discards : (h : HostState) (e : EndpointState) (u : ℕ) → slice_get (discarded_by h e).tickets u ≡ slice_get h.tickets u
 at-discards h e u = ap (λ (l : List HostTicket). slice_get l u) (discards-tickets h e.pending)
 
-left-apart : (h : HostState) (e : EndpointState) (u : ℕ) → times u e.pending ≡ 0 → slice_get (left_by h e).tickets u ≡ slice_get h.tickets u
+pub left-apart : (h : HostState) (e : EndpointState) (u : ℕ) → times u e.pending ≡ 0 → slice_get (left_by h e).tickets u ≡ slice_get h.tickets u
 left-apart h e u none = at-left h e u ∙ (abandons-apart (discarded_by h e) e.pending u none ∙ at-discards h e u)
 
 left-given : (h : HostState) (e : EndpointState) (u : ℕ) (hold : Hold) → times u e.pending ≡ 1 → slice_get h.tickets u ≡ Some (HeldBy hold) → GivenUp h.kernel.past u (slice_get (left_by h e).tickets u)

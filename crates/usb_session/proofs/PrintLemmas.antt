@@ -17,6 +17,7 @@ use Rattle.usb_session_calls.specs.EndpointNames.{EndpointName, endpoint_under}
 use Rattle.usb_session_calls.specs.State.{State, Endpoint}
 use Rattle.usb_session_calls.specs.Answer.{Answer}
 use Rattle.usb_session.specs.Served.{taken_under, was_streamed_under, lines_behind}
+use Rattle.usb_session.proofs.Views.{View, view_of, taken_in, streamed_in}
 
 -- the line of a ticket's completion
 abbrev pub line_in : List Event → ℕ → List ℕ
@@ -66,19 +67,19 @@ prints-more past ts t lines line came is p =
     }
 
 -- of what is open under a name now, and of which no reader or writer was made, an answer took no ticket more; or it took one, and printed its completion
-pub data Takes (state : State) (a : Answer) (e : EndpointName) (g : Endpoint) : Type 0 where
-  none : was_streamed_under state e ≡ false → g.taken ≡ taken_under state e → Takes state a e g
-  next : (t : ℕ) (c : Completion) → was_streamed_under state e ≡ false → g.taken ≡ taken_under state e ++ t ∷ [] → transfer_completion a.state.host.kernel.past t ≡ Some c → a.line ≡ done_line c → Takes state a e g
+pub data Takes (v : View) (a : Answer) (e : EndpointName) (g : Endpoint) : Type 0 where
+  none : streamed_in v e ≡ false → g.taken ≡ taken_in v e → Takes v a e g
+  next : (t : ℕ) (c : Completion) → streamed_in v e ≡ false → g.taken ≡ taken_in v e ++ t ∷ [] → transfer_completion a.state.host.kernel.past t ≡ Some c → a.line ≡ done_line c → Takes v a e g
 
 -- the lines of all that is open, and of which no reader or writer was made
 abbrev pub AllPrint : State → (EndpointName → List (List ℕ)) → Type 0
 AllPrint state lines = (e : EndpointName) (h : Endpoint) → endpoint_under state e ≡ Some h → h.was_streamed ≡ false → Prints state.host.kernel.past h.taken (lines e)
 
-pub taken-of : (state : State) (e : EndpointName) (h : Endpoint) → endpoint_under state e ≡ Some h → taken_under state e ≡ h.taken
-taken-of state e h is = ap (λ (o : Option Endpoint). option_map_or (λ (x : Endpoint). x.taken) o []) is
+pub taken-of : (v : View) (e : EndpointName) (h : Endpoint) → v.opened e ≡ Some h → taken_in v e ≡ h.taken
+taken-of v e h is = ap (λ (o : Option Endpoint). option_map_or (λ (x : Endpoint). x.taken) o []) is
 
-pub read-under : (state : State) (e : EndpointName) (h : Endpoint) → endpoint_under state e ≡ Some h → was_streamed_under state e ≡ h.was_streamed
-read-under state e h is = ap (λ (o : Option Endpoint). option_map_or (λ (x : Endpoint). x.was_streamed) o false) is
+pub read-under : (v : View) (e : EndpointName) (h : Endpoint) → v.opened e ≡ Some h → streamed_in v e ≡ h.was_streamed
+read-under v e h is = ap (λ (o : Option Endpoint). option_map_or (λ (x : Endpoint). x.was_streamed) o false) is
 
 prints-none : (past : List Event) → Prints past [] []
 prints-none past = record { came = All-nil (HasCame past); are = refl }
@@ -96,7 +97,7 @@ not_more n m same = grind (arith, nat_tests)
 pub one_more : (n m : ℕ) → m ≡ suc n → nat_lt n m ≡ true
 one_more n m more = grind (arith, nat_tests)
 
-one-prints : (state : State) (a : Answer) (lines : EndpointName → List (List ℕ)) (e : EndpointName) (g : Endpoint) → Extends state.host.kernel.past a.state.host.kernel.past → endpoint_under a.state e ≡ Some g → g.was_streamed ≡ false → AllPrint state lines → Takes state a e g → Prints a.state.host.kernel.past g.taken (lines_behind state a lines e)
+one-prints : (state : State) (a : Answer) (lines : EndpointName → List (List ℕ)) (e : EndpointName) (g : Endpoint) → Extends state.host.kernel.past a.state.host.kernel.past → endpoint_under a.state e ≡ Some g → g.was_streamed ≡ false → AllPrint state lines → Takes (view_of state) a e g → Prints a.state.host.kernel.past g.taken (lines_behind state a lines e)
 one-prints state a lines e g extends is unread all takes = by takes
   where
     past : List Event
@@ -109,15 +110,15 @@ one-prints state a lines e g extends is unread all takes = by takes
     printed = if is_none (endpoint_under state e) then [] else lines e
 
     before : was_streamed_under state e ≡ false → Prints past was printed
-    before none_read = prints-stay state.host.kernel.past past was printed extends (prints-in state.host.kernel.past (lines e) (endpoint_under state e) (λ h at. all e h at (sym (read-under state e h at) ∙ none_read)))
+    before none_read = prints-stay state.host.kernel.past past was printed extends (prints-in state.host.kernel.past (lines e) (endpoint_under state e) (λ h at. all e h at (sym (read-under (view_of state) e h at) ∙ none_read)))
 
     now : taken_under a.state e ≡ g.taken
-    now = taken-of a.state e g is
+    now = taken-of (view_of a.state) e g is
 
     unread_now : was_streamed_under a.state e ≡ false
-    unread_now = read-under a.state e g is ∙ unread
+    unread_now = read-under (view_of a.state) e g is ∙ unread
 
-    by : Takes state a e g → Prints past g.taken (lines_behind state a lines e)
+    by : Takes (view_of state) a e g → Prints past g.taken (lines_behind state a lines e)
     by (none none_read same) =
         let stays = not_more (length was) (length (taken_under a.state e)) (ap (λ l. length l) (now ∙ same)) in
         prints-are past was g.taken printed (lines_behind state a lines e) same (rw stays (append-nil printed)) (before none_read)
@@ -128,5 +129,5 @@ one-prints state a lines e g extends is unread all takes = by takes
         prints-are past (was ++ t ∷ []) g.taken (printed ++ a.line ∷ []) (lines_behind state a lines e) same (rw (more, unread_now) refl)
         (prints-more past was t printed a.line (record { completion = c; is = came }) (line ∙ ap polled_line (sym came)) (before none_read))
 
-pub all-print : (state : State) (a : Answer) (lines : EndpointName → List (List ℕ)) → Extends state.host.kernel.past a.state.host.kernel.past → AllPrint state lines → ((e : EndpointName) (g : Endpoint) → endpoint_under a.state e ≡ Some g → g.was_streamed ≡ false → Takes state a e g) → AllPrint a.state (lines_behind state a lines)
+pub all-print : (state : State) (a : Answer) (lines : EndpointName → List (List ℕ)) → Extends state.host.kernel.past a.state.host.kernel.past → AllPrint state lines → ((e : EndpointName) (g : Endpoint) → endpoint_under a.state e ≡ Some g → g.was_streamed ≡ false → Takes (view_of state) a e g) → AllPrint a.state (lines_behind state a lines)
 all-print state a lines extends all takes e g is unread = one-prints state a lines e g extends is unread all (takes e g is unread)

@@ -25,7 +25,7 @@ use Rattle.usb_session_calls.specs.declared.call.ReaderCall.{ReaderCall}
 use Rattle.usb_session_calls.specs.declared.call.ReaderCall.TheVariants.{Read, PollRead, FillBuf, PollFillBuf, Consume, IsEnd, ConsumeEnd, SetNumTransfers, SetReadTimeout, Cancel, ClearHalt}
 use Rattle.usb_session_calls.specs.CalledReaders.{reader_called, on_reader}
 use Rattle.usb_session_calls.specs.State.{State, Reader, tickets_at, endpoint_of_reader, tickets_of, with_host}
-use Rattle.usb_session_calls.specs.EndpointNames.{EndpointName, Own, OfReader, OfWriter, endpoint_under}
+use Rattle.usb_session_calls.specs.EndpointNames.{EndpointName, Own, OfReader, OfWriter, OfClientWriter, OfClientReader, endpoint_under}
 use Rattle.usb_session_calls.proofs.NameLemmas.{free-none, length-change_named}
 use Rattle.usb_session_calls.proofs.EndpointNameLemmas.{Changed, set-changes, freed-changes, change-changes}
 use Rattle.usb_session_calls.specs.Readers.{nothing_consumed, with_none, taken_by_call, with_reader, reader_answer, without_reader, inner_answer, called, with_count, num_on, closed_reader, reader_closed_at, reader_closed, close_reader_answer}
@@ -38,56 +38,60 @@ use Rattle.usb_session_calls.specs.Answer.{Answer, answer_with, condition_answer
 use Rattle.usb_device_endpoint.specs.Closes.{after_close}
 use Rattle.usb_session.specs.Served.{closed_under}
 use Rattle.usb_session.proofs.CallLeads.{Leads, leads-start, leads-send, leads-wait, leads-aside, leads-take, called-acts}
-use Rattle.usb_session.proofs.Does.{Shuts, Acts, Changes, Quiet, Does, says_done, ends, moves, kept-change, own-changes, reader-changes, quiet-aside, quiet-same, told-does, named-does, closing-does, free-does, bar-does, result-other}
+use Rattle.usb_session.proofs.Views.{view_of, name_counts}
+use Rattle.usb_session.proofs.Does.{Shuts, shuts-by, Acts, Changes, Quiet, Does, says_done, ends, settles, still, moves, kept-change, own-changes, reader-changes, quiet-aside, quiet-same, told-does, named-does, closing-does, free-does, bar-does, result-other}
 
 -- a reader is made of an endpoint, and the endpoint comes back
 pub reader-does : (state : State) (r e size : ℕ) → Does state (reader_answer state r e size)
 unfolding reader_answer
 reader-does state r e size =
-    named-does (named state.endpoints e) _ (λ h here.
-    free-does (λ free.
-    free-does (λ in_.
+    named-does state (named state.endpoints e) _ (λ h here.
+    free-does state (λ free.
+    free-does state (λ in_.
     let y : Reader = record { state = fresh_reader h.state size; before = h.taken; taken = []; given = []; consumed = nothing_consumed (tickets_at h) } in
-    moves (Own e) (OfReader r) h (endpoint_of_reader y) here (ap (option_map endpoint_of_reader) (free-none state.readers r free)) (record { key = refl; pending = refl; taken = append-nil h.taken }) (λ was. refl) refl
+    settles refl (moves (Own e) (OfReader r) h (endpoint_of_reader y) here (ap (option_map endpoint_of_reader) (free-none state.readers r free)) (record { key = refl; maximum = refl; pending = refl; taken = append-nil h.taken }) (λ was. refl)
     (record {
-      mid = record state { endpoints = freed state.endpoints e };
+      mid = view_of (record state { endpoints = freed state.endpoints e });
       gone = own-changes state state.host (freed state.endpoints e) e None (freed-changes state.endpoints e);
       put = reader-changes (record state { endpoints = freed state.endpoints e }) state.host (set_name state.readers r y) r (Some y) (set-changes state.readers r y free);
     })
-    (quiet-same (with_reader state r e size h)))))
+    (still (quiet-same (with_reader state r e size h)))))))
 
 pub inner-does : (state : State) (e r : ℕ) → Does state (inner_answer state e r)
 unfolding inner_answer
 inner-does state e r =
-    named-does (named state.readers r) _ (λ x is.
-    free-does (λ free.
-    moves (OfReader r) (Own e) (endpoint_of_reader x) (endpoint_of_reader x) (ap (option_map endpoint_of_reader) is) (free-none state.endpoints e free) (record { key = refl; pending = refl; taken = refl }) (λ was. was tt) refl
+    named-does state (named state.readers r) _ (λ x is.
+    free-does state (λ free.
+    settles refl (moves (OfReader r) (Own e) (endpoint_of_reader x) (endpoint_of_reader x) (ap (option_map endpoint_of_reader) is) (free-none state.endpoints e free) (record { key = refl; maximum = refl; pending = refl; taken = refl }) (λ was. was tt)
     (record {
-      mid = record state { readers = freed state.readers r };
+      mid = view_of (record state { readers = freed state.readers r });
       gone = reader-changes state state.host (freed state.readers r) r None (freed-changes state.readers r);
       put = own-changes (record state { readers = freed state.readers r }) state.host (set_name state.endpoints e (endpoint_of_reader x)) e (Some (endpoint_of_reader x)) (set-changes state.endpoints e (endpoint_of_reader x) free);
     })
-    (quiet-same (without_reader state e r x))))
+    (still (quiet-same (without_reader state e r x))))))
 
 -- it is closed
-closed-changes : (state : State) (r : ℕ) (x : Reader) → Changes state (closed_reader state r x) (after_close host_calls state.host x.state.endpoint) (OfReader r) None
+closed-changes : (state : State) (r : ℕ) (x : Reader) → Changes (view_of state) (view_of (closed_reader state r x)) (after_close host_calls state.host x.state.endpoint) (OfReader r) None
 closed-changes state r x = reader-changes state (after_close host_calls state.host x.state.endpoint) (freed state.readers r) r None (freed-changes state.readers r)
 
-pub reader_closed-does : (state : State) (r : ℕ) (lines : EndpointName → List (List ℕ)) → Acts (silent (reader_closed state r)) state (closed_under state lines (OfReader r)) []
+pub reader_closed-does : (state : State) (r : ℕ) (lines : EndpointName → List (List ℕ)) → Acts (silent (reader_closed state r)) (view_of state) (closed_under state lines (OfReader r)) []
 unfolding reader_closed
 reader_closed-does state r lines =
     closing-does state (OfReader r) lines (named state.readers r) endpoint_of_reader (λ o. silent (reader_closed_at state r o)) (closed_reader state r) refl refl (quiet-same state) (λ x. refl)
     (λ x is. closed-changes state r x) (λ x. quiet-same (closed_reader state r x))
 
-pub reader_closed-shuts : Shuts reader_closed OfReader
+reader_closed-gone : (state : State) (n : ℕ) → Changed (endpoint_under state) (endpoint_under (reader_closed state n)) (OfReader n) None
 unfolding reader_closed
-reader_closed-shuts state n = by (named state.readers n) refl
+reader_closed-gone state n = by (named state.readers n) refl
   where
     by : (o : Option Reader) → named state.readers n ≡ o → Changed (endpoint_under state) (endpoint_under (reader_closed_at state n o)) (OfReader n) None
     by None is = record { here = ap (option_map endpoint_of_reader) is; others = λ d apart. refl }
     by (Some x) is = (closed-changes state n x).endpoints
 
-pub close_reader-does : (state : State) (r : ℕ) (lines : EndpointName → List (List ℕ)) → Acts (close_reader_answer state r) state (closed_under state lines (OfReader r)) []
+pub reader_closed-shuts : Shuts reader_closed OfReader
+reader_closed-shuts = shuts-by reader_closed OfReader reader_closed-gone
+
+pub close_reader-does : (state : State) (r : ℕ) (lines : EndpointName → List (List ℕ)) → Acts (close_reader_answer state r) (view_of state) (closed_under state lines (OfReader r)) []
 unfolding close_reader_answer
 close_reader-does state r lines =
     closing-does state (OfReader r) lines (named state.readers r) endpoint_of_reader (λ o. if_open o (λ x. ok_answer (closed_reader state r x)) (condition_answer state)) (closed_reader state r) refl refl (quiet-same state) (λ x. refl)
@@ -99,19 +103,21 @@ module _ (f : Reader → Reader) (state : State) (r : ℕ) (x : Reader) (at : na
   endpoint-kept (Own e) = refl
   endpoint-kept (OfReader n) = kept-change endpoint_of_reader f state.readers r n x at same
   endpoint-kept (OfWriter n) = refl
+  endpoint-kept (OfClientWriter n) = refl
+  endpoint-kept (OfClientReader n) = refl
 
-  kept-quiet : Quiet state (record state { readers = change_named f state.readers r })
+  kept-quiet : Quiet (view_of state) (view_of (record state { readers = change_named f state.readers r }))
   kept-quiet =
       quiet-aside state (record state { readers = change_named f state.readers r }) refl refl endpoint-kept
-      (ap (λ n. record { own = length state.endpoints; readers = n; writers = length state.writers }) (length-change_named f state.readers r)) refl
+      (ap (λ n. record (name_counts state) { readers = n }) (length-change_named f state.readers r)) refl
 
 -- a call goes on
-abbrev Led : State → ℕ → Reader → Answer → Reading HostState → Type 0
-Led state r x a w = Leads a state (OfReader r) (endpoint_of_reader x) w.bus w.reader.endpoint
+abbrev Led : (state : State) (r : ℕ) (x : Reader) → named state.readers r ≡ Some x → Answer → Reading HostState → Type 0
+Led state r x is a w = Leads a (view_of state) (OfReader r) (endpoint_of_reader x) (ap (option_map endpoint_of_reader) is) w.bus w.reader.endpoint
 
-called-does : (state : State) (r : ℕ) (x : Reader) (consumed : Option (List Mark)) (bytes : List ℕ) (y : ReaderState) (w : Reading HostState) (line : List ℕ) (us : Bool) (timeout : ℕ) → named state.readers r ≡ Some x → says_done line ≡ false
+called-does : (state : State) (r : ℕ) (x : Reader) (consumed : Option (List Mark)) (bytes : List ℕ) (y : ReaderState) (w : Reading HostState) (line : List ℕ) (us : Bool) (timeout : ℕ) (is : named state.readers r ≡ Some x) → says_done line ≡ false
     → y.endpoint ≡ x.state.endpoint
-    → (Keeps host_calls us timeout (Led state r x (answer_with (called state r consumed bytes w) line)) → Led state r x (answer_with (called state r consumed bytes w) line) (reading state.host y) → Led state r x (answer_with (called state r consumed bytes w) line) w)
+    → (Keeps host_calls us timeout (Led state r x is (answer_with (called state r consumed bytes w) line)) → Led state r x is (answer_with (called state r consumed bytes w) line) (reading state.host y) → Led state r x is (answer_with (called state r consumed bytes w) line) w)
     → Does state (answer_with (called state r consumed bytes w) line)
 called-does state r x consumed bytes y w line us timeout is other same keeps =
     let a = answer_with (called state r consumed bytes w) line in
@@ -119,18 +125,18 @@ called-does state r x consumed bytes y w line us timeout is other same keeps =
     let h = endpoint_of_reader x in
     let here = ap (option_map endpoint_of_reader) is in
     let by_call = taken_by_call (tickets_of state) (tickets_of (with_host state w.bus)) x.state.endpoint.pending w.reader.endpoint.pending in
-    let took : Changes state a.state w.bus e (Some (record { state = w.reader.endpoint; taken = x.before ++ (x.taken ++ by_call); was_streamed = true })) → Changes state a.state w.bus e (Some (record { state = w.reader.endpoint; taken = (x.before ++ x.taken) ++ by_call; was_streamed = true })) =
-    subst (λ (ts : List ℕ). Changes state a.state w.bus e (Some (record { state = w.reader.endpoint; taken = ts; was_streamed = true }))) (sym (append_assoc x.before x.taken by_call)) in
-    called-acts state a e h w.bus w.reader.endpoint tt refl here other
+    let took : Changes (view_of state) (view_of a.state) w.bus e (Some (record { state = w.reader.endpoint; taken = x.before ++ (x.taken ++ by_call); was_streamed = true })) → Changes (view_of state) (view_of a.state) w.bus e (Some (record { state = w.reader.endpoint; taken = (x.before ++ x.taken) ++ by_call; was_streamed = true })) =
+    subst (λ (ts : List ℕ). Changes (view_of state) (view_of a.state) w.bus e (Some (record { state = w.reader.endpoint; taken = ts; was_streamed = true }))) (sym (append_assoc x.before x.taken by_call)) in
+    called-acts a (view_of state) e h tt here other w.bus w.reader.endpoint
     (took (reader-changes state _ _ r _ (change-changes _ state.readers r x is))) (
     keeps
     (record {
-      submission = λ w l. leads-send a state e h tt refl here other w.bus w.reader.endpoint (fresh_buffer w.reader.size) l;
+      submission = λ w l. leads-send a (view_of state) e h tt here other w.bus w.reader.endpoint (fresh_buffer w.reader.size) l;
       end = λ w goes l. l;
-      wait = λ w front others was l. leads-wait a state e h tt refl here other w.bus w.reader.endpoint front timeout l;
-      taking = λ w front others c was goes came l. leads-take a state e h tt refl here other w.bus w.reader.endpoint front others was l;
+      wait = λ w front others was l. leads-wait a (view_of state) e h tt here other w.bus w.reader.endpoint front timeout l;
+      taking = λ w front others c was goes came l. leads-take a (view_of state) e h tt here other w.bus w.reader.endpoint front others was l;
     })
-    (leads-start a state e h tt refl here other y.endpoint same))
+    (leads-start a (view_of state) e h tt here other y.endpoint same))
 
 -- none of their lines is that of a completion
 fault-other : (fault : ReadFault) → says_done (read_fault_line fault) ≡ false
@@ -166,7 +172,7 @@ read_on-does state framing r most timeout line x is other =
     let us = is_until_short framing in
     let first = reading state.host x.state in
     let came = read_came host_calls us timeout most first in
-    bar-does {bars = bars_read state framing x} {call = read_as state framing r x line came} (λ no_.
+    bar-does state {bars = bars_read state framing x} {call = read_as state framing r x line came} (λ no_.
     called-does state r x (consumed_with framing (map Byte (given_by came.answer)) x.consumed) (given_by came.answer) x.state came.left (line came.answer) us timeout is (other came.answer) refl
     (λ keeps start. read-keeps host_calls us timeout _ keeps most first (λ v n l. l) start))
 
@@ -176,14 +182,14 @@ fill_on-does state framing r timeout line x is other =
     let us = is_until_short framing in
     let first = reading state.host x.state in
     let came = fill_came host_calls us timeout first in
-    bar-does {bars = bars_read state framing x} {call = filled_as state framing r x line came} (λ no_.
+    bar-does state {bars = bars_read state framing x} {call = filled_as state framing r x line came} (λ no_.
     called-does state r x (consumed_with framing [] x.consumed) [] x.state came.left (line came.answer) us timeout is (other came.answer) refl
     (λ keeps start. fill-keeps host_calls us timeout _ keeps first start))
 
 -- how many are to be pending is set
 num_on-does : (state : State) (r n : ℕ) (x : Reader) → named state.readers r ≡ Some x → Does state (num_on state r n x)
 num_on-does state r n x is =
-    bar-does (λ no_.
+    bar-does state (λ no_.
     let first = reading state.host (with_count n x.state) in
     called-does state r x x.consumed [] (with_count n x.state) (filled_to host_calls (n - 1) first) ok_line false 0 is refl refl
     (λ keeps start. filled-keeps host_calls false 0 _ keeps (n - 1) first start))
@@ -200,8 +206,8 @@ halt-does state r x is =
     let host = host_halt_cleared state.host e.device e.address in
     called-does state r x x.consumed [] x.state (halt_came (reading state.host x.state)) (halt_line state.host e) false 0 is (result-other (or_error clear_halt_error answer)) refl
     (λ keeps start.
-    subst (Leads a state (OfReader r) h host) (sym (halted-rest answer x.state))
-    (leads-aside a state (OfReader r) h tt refl here (result-other (or_error clear_halt_error answer)) state.host host e aside.past aside.handles.tickets start))
+    subst (Leads a (view_of state) (OfReader r) h here host) (sym (halted-rest answer x.state))
+    (leads-aside a (view_of state) (OfReader r) h tt here (result-other (or_error clear_halt_error answer)) state.host host e aside.past aside.handles.tickets start))
 
 -- each call
 reader_called-does : (state : State) (r : ℕ) (x : Reader) (call : ReaderCall) → named state.readers r ≡ Some x → Does state (reader_called call state r x)
@@ -211,7 +217,7 @@ reader_called-does state r x (FillBuf framing) is = fill_on-does state framing r
 reader_called-does state r x (PollFillBuf framing) is = fill_on-does state framing r 0 (polled_given_line buffer_line) x is (polled-other buffer_line buffer-other)
 reader_called-does state r x (Consume framing n) is =
     let next = read_off state framing r x (map Byte (take n x.state.unread)) (take n x.state.unread) (with_read n x.state) in
-    bar-does {bars = nat_lt (length x.state.unread) n} {call = ok_answer next} (λ no_. ends refl (kept-quiet _ state r x is refl))
+    bar-does state {bars = nat_lt (length x.state.unread) n} {call = ok_answer next} (λ no_. ends refl (kept-quiet _ state r x is refl))
 reader_called-does state r x IsEnd is = told-does state (is_end_line (is_end x.state)) (end-other (is_end x.state))
 reader_called-does state r x ConsumeEnd is =
     cond_both (is_end x.state) _ (answer_with state (consumed_end_line (Err (record {})))) (Does state)
@@ -224,4 +230,4 @@ reader_called-does state r x ClearHalt is = halt-does state r x is
 
 pub on_reader-does : (state : State) (r : ℕ) (call : ReaderCall) → Does state (on_reader state r call)
 unfolding on_reader
-on_reader-does state r call = named-does (named state.readers r) (reader_called call state r) (λ x is. reader_called-does state r x call is)
+on_reader-does state r call = named-does state (named state.readers r) (reader_called call state r) (λ x is. reader_called-does state r x call is)

@@ -20,7 +20,8 @@ use Rattle.usb_session_calls.proofs.NameLemmas.{free-none, length-freed, length-
 use Rattle.usb_session_calls.proofs.Called.{own-open, reader-open, endpoints_kept, readers_kept}
 use Rattle.usb_session.proofs.KeptNames.{kept-at, kept-none, kept-free}
 use Rattle.usb_session.proofs.Replaced.{reader_endpoint}
-use Rattle.usb_session.proofs.Moves.{Moves, sound-moved, is-direction, not-direction, barred-used, barred-direction}
+use Rattle.usb_session_calls.proofs.Moved.{Moves}
+use Rattle.usb_session.proofs.Moves.{sound-moved, is-direction, not-direction, barred-used, barred-direction}
 
 -- a reader is open in place of an endpoint, and an endpoint in place of a reader
 represents-made : (s : SessionState) (state : State) (e r : ℕ) (x : Reader) → Represents s state → Represents (record s { endpoints = freed s.endpoints e; readers = set_name s.readers r x.state }) (record state { endpoints = freed state.endpoints e; readers = set_name state.readers r x })
@@ -60,7 +61,7 @@ module _ (s : SessionState) (e r : ℕ) where
     made-sound sound same =
         rw (rest, put)
         (sound-moved s (freed s.endpoints e) (set_name s.readers r y) s.writers (Own e) (OfReader r) y.endpoint sound
-        (record { endpoints = length-freed s.endpoints e; readers = length-set_name s.readers r y; writers = refl }) (made y (was ∙ ap (λ z. Some z) (sym same)) free))
+        (record { endpoints = length-freed s.endpoints e; readers = length-set_name s.readers r y; writers = refl; clients = refl }) (made y (was ∙ ap (λ z. Some z) (sym same)) free))
 
     pub reader-gives : (size : ℕ) → y ≡ fresh_reader x size → direction_of_address x.address ≡ In → (state : State) → Represents s state → Gives (record s { endpoints = es; readers = xs }) ok_line (reader_answer state r e size)
     unfolding reader_answer
@@ -97,7 +98,7 @@ module _ (s : SessionState) (e r : ℕ) where
     given-sound sound =
         rw (put, rest, same)
         (sound-moved s (set_name s.endpoints e y.endpoint) (freed s.readers r) s.writers (OfReader r) (Own e) y.endpoint sound
-        (record { endpoints = length-set_name s.endpoints e y.endpoint; readers = length-freed s.readers r; writers = refl }) (given_back y was free))
+        (record { endpoints = length-set_name s.endpoints e y.endpoint; readers = length-freed s.readers r; writers = refl; clients = refl }) (given_back y was free))
 
     pub inner-gives : (state : State) → Represents s state → Gives (record s { endpoints = es; readers = xs }) ok_line (inner_answer state e r)
     unfolding inner_answer

@@ -118,7 +118,7 @@ abbrev pub AllReaders : (List Event → Reader → Type 0) → State → Type 0
 AllReaders At state = EachOpen readers_of At state
 
 -- an IN endpoint has such an address
-input-of : (h : Endpoint) → has_direction In h.state ≡ true → 128 ≤ h.state.address
+pub input-of : (h : Endpoint) → has_direction In h.state ≡ true → 128 ≤ h.state.address
 input-of h is = elim (cases_Bool (nat_le 128 h.state.address)) [ inl below ↦ leb-true 128 h.state.address below | inr other ↦ absurd (let e : same_direction Out In ≡ true = rw other at is in cc) ]
 
 module _ (At : List Event → Reader → Type 0) (Legal : List Event → Type 0) (law : ReaderLaw At Legal) where

@@ -26,8 +26,9 @@ use Rattle.usb_script_lines.specs.ItemKinds.{place_count}
 use Rattle.usb_session_calls.specs.Names.{named}
 use Rattle.usb_io.specs.Readers.{ReaderState}
 use Rattle.usb_io.specs.Writers.{WriterState}
-use Rattle.usb_session_calls.specs.EndpointNames.{EndpointName, Own, OfReader, OfWriter, held_under, endpoint_under}
-use Rattle.usb_session_calls.specs.State.{endpoint_of_reader, endpoint_of_writer}
+use Rattle.usb_msg.specs.Clients.{ClientState}
+use Rattle.usb_session_calls.specs.EndpointNames.{EndpointName, Own, OfReader, OfWriter, OfClientWriter, OfClientReader, held_under, endpoint_under}
+use Rattle.usb_session_calls.specs.State.{endpoint_of_reader, endpoint_of_writer, endpoint_of_client_writer, endpoint_of_client_reader}
 use Rattle.usb_session.specs.Output.{devices_of, start}
 use Rattle.usb_session_calls.specs.SessionState.{SessionState, IsSound, open_under}
 use Rattle.usb_session_calls.specs.SessionParts.{session_made}
@@ -49,14 +50,17 @@ host-start k now items devices places past known are clock armed none rest spare
 nobody : {X : Type 0} (n e : ℕ) (x : X) → named (replicate n None) e ≡ Some x → ⊥
 nobody {X} n e x is = none-some x (sym (named-replicate n e) ∙ is)
 
-none-held : {E R W : Type 0} (of_reader : R → E) (of_writer : W → E) (n : ℕ) (e : EndpointName) → held_under of_reader of_writer (replicate n None) (replicate n None) (replicate n None) e ≡ None
-none-held of_reader of_writer n (Own e) = named-replicate n e
-none-held of_reader of_writer n (OfReader r) = ap (option_map of_reader) (named-replicate n r)
-none-held of_reader of_writer n (OfWriter w) = ap (option_map of_writer) (named-replicate n w)
+module _ {E R W C : Type 0} (of_reader : R → E) (of_writer : W → E) (of_client_writer of_client_reader : C → E) (n : ℕ) where
+  none-held : (e : EndpointName) → held_under of_reader of_writer of_client_writer of_client_reader (replicate n None) (replicate n None) (replicate n None) (replicate n None) e ≡ None
+  none-held (Own e) = named-replicate n e
+  none-held (OfReader r) = ap (option_map of_reader) (named-replicate n r)
+  none-held (OfWriter w) = ap (option_map of_writer) (named-replicate n w)
+  none-held (OfClientWriter m) = ap (option_map of_client_writer) (named-replicate n m)
+  none-held (OfClientReader m) = ap (option_map of_client_reader) (named-replicate n m)
 
 pub none-start : (items : List Item) (e : EndpointName) → endpoint_under (start items) e ≡ None
 unfolding start
-none-start items e = none-held endpoint_of_reader endpoint_of_writer 64 e
+none-start items e = none-held endpoint_of_reader endpoint_of_writer endpoint_of_client_writer endpoint_of_client_reader 64 e
 
 pub no-future_start : (items : List Item) (n : ℕ) → named (start items).futures n ≡ None
 unfolding start
@@ -64,10 +68,10 @@ no-future_start items n = named-replicate 64 n
 
 -- a session with nothing open
 abbrev pub empty_session : Tree → List UdevPacket → HostState → SessionState
-empty_session t p host = session_made t p host (replicate 64 None) (replicate 64 None) (replicate 64 None) (replicate 64 None) (replicate 64 None) (replicate 64 None)
+empty_session t p host = session_made t p host (replicate 64 None) (replicate 64 None) (replicate 64 None) (replicate 64 None) (replicate 64 None) (replicate 64 None) (replicate 64 None)
 
 none-under : (t : Tree) (p : List UdevPacket) (host : HostState) (e : EndpointName) (h : EndpointState) → open_under (empty_session t p host) e ≡ Some h → ⊥
-none-under t p host e h is = none-some h (sym (none-held (λ (x : ReaderState). x.endpoint) (λ (x : WriterState). x.endpoint) 64 e) ∙ is)
+none-under t p host e h is = none-some h (sym (none-held (λ (x : ReaderState). x.endpoint) (λ (x : WriterState). x.endpoint) (λ (x : ClientState). x.writer.endpoint) (λ (x : ClientState). x.reader.endpoint) 64 e) ∙ is)
 
 empty-sound : (t : Tree) (p : List UdevPacket) (host : HostState) → host.steps ≡ [] → host.interfaces ≡ [] → host.devices ≡ [] → host.endpoints ≡ [] → host.tickets ≡ [] → TicketsAreCounted host → ClaimsAreOwned host → IsSound (empty_session t p host)
 empty-sound t p host idle none nothing closed unheld counted owned =
@@ -78,6 +82,7 @@ empty-sound t p host idle none nothing closed unheld counted owned =
       endpoint_names = length-replicate {A = Option EndpointState} 64 None;
       reader_names = length-replicate {A = Option ReaderState} 64 None;
       writer_names = length-replicate {A = Option WriterState} 64 None;
+      client_names = length-replicate {A = Option ClientState} 64 None;
       devices_stand = λ d key is. absurd (nobody 64 d key is);
       devices_counted = λ key o at. absurd (none-some o (sym (ap (λ ds. value_at ds key) nothing) ∙ at));
       devices_held = record {
@@ -101,8 +106,8 @@ empty-sound t p host idle none nothing closed unheld counted owned =
       claims_owned = owned;
     }
 
-made-empty : (t : Tree) (p : List UdevPacket) (host : HostState) (ds : List (Option ℕ)) (is : List (Option InterfaceState)) (es : List (Option EndpointState)) (rs : List (Option ReaderState)) (ws : List (Option WriterState)) (fs : List (Option FutureState)) → ds ≡ replicate 64 None → is ≡ replicate 64 None → es ≡ replicate 64 None → rs ≡ replicate 64 None → ws ≡ replicate 64 None → fs ≡ replicate 64 None → session_made t p host ds is es rs ws fs ≡ empty_session t p host
-made-empty t p host ds is es rs ws fs d i e q w f = rw (d, i, e, q, w, f) refl
+made-empty : (t : Tree) (p : List UdevPacket) (host : HostState) (ds : List (Option ℕ)) (is : List (Option InterfaceState)) (es : List (Option EndpointState)) (rs : List (Option ReaderState)) (ws : List (Option WriterState)) (cs : List (Option ClientState)) (fs : List (Option FutureState)) → ds ≡ replicate 64 None → is ≡ replicate 64 None → es ≡ replicate 64 None → rs ≡ replicate 64 None → ws ≡ replicate 64 None → cs ≡ replicate 64 None → fs ≡ replicate 64 None → session_made t p host ds is es rs ws cs fs ≡ empty_session t p host
+made-empty t p host ds is es rs ws cs fs d i e q w g f = rw (d, i, e, q, w, g, f) refl
 
 start-steps : (items : List Item) → (start items).host.steps ≡ []
 unfolding start
@@ -132,17 +137,17 @@ start-owned : (items : List Item) → ClaimsAreOwned (start items).host
 unfolding start
 start-owned items = claims_stay_owned.start (start items).host.kernel (claims_stay_owned.fresh (devices_of items))
 
-pub sound-start : (items : List Item) (t : Tree) (p : List UdevPacket) (host : HostState) (ds : List (Option ℕ)) (is : List (Option InterfaceState)) (es : List (Option EndpointState)) (rs : List (Option ReaderState)) (ws : List (Option WriterState)) (fs : List (Option FutureState)) → host ≡ (start items).host → ds ≡ replicate 64 None → is ≡ replicate 64 None → es ≡ replicate 64 None → rs ≡ replicate 64 None → ws ≡ replicate 64 None → fs ≡ replicate 64 None → IsSound (session_made t p host ds is es rs ws fs)
-sound-start items t p host ds is es rs ws fs start_ d i e q w f =
-    subst IsSound (sym (made-empty t p host ds is es rs ws fs d i e q w f)) (empty-sound t p host (ap (λ (h : HostState). h.steps) start_ ∙ start-steps items) (ap (λ (h : HostState). h.interfaces) start_ ∙ start-interfaces items) (ap (λ (h : HostState). h.devices) start_ ∙ start-devices items) (ap (λ (h : HostState). h.endpoints) start_ ∙ start-endpoints items) (ap (λ (h : HostState). h.tickets) start_ ∙ start-tickets items) (subst TicketsAreCounted (sym start_) (start-counted items)) (subst ClaimsAreOwned (sym start_) (start-owned items)))
+pub sound-start : (items : List Item) (t : Tree) (p : List UdevPacket) (host : HostState) (ds : List (Option ℕ)) (is : List (Option InterfaceState)) (es : List (Option EndpointState)) (rs : List (Option ReaderState)) (ws : List (Option WriterState)) (cs : List (Option ClientState)) (fs : List (Option FutureState)) → host ≡ (start items).host → ds ≡ replicate 64 None → is ≡ replicate 64 None → es ≡ replicate 64 None → rs ≡ replicate 64 None → ws ≡ replicate 64 None → cs ≡ replicate 64 None → fs ≡ replicate 64 None → IsSound (session_made t p host ds is es rs ws cs fs)
+sound-start items t p host ds is es rs ws cs fs start_ d i e q w g f =
+    subst IsSound (sym (made-empty t p host ds is es rs ws cs fs d i e q w g f)) (empty-sound t p host (ap (λ (h : HostState). h.steps) start_ ∙ start-steps items) (ap (λ (h : HostState). h.interfaces) start_ ∙ start-interfaces items) (ap (λ (h : HostState). h.devices) start_ ∙ start-devices items) (ap (λ (h : HostState). h.endpoints) start_ ∙ start-endpoints items) (ap (λ (h : HostState). h.tickets) start_ ∙ start-tickets items) (subst TicketsAreCounted (sym start_) (start-counted items)) (subst ClaimsAreOwned (sym start_) (start-owned items)))
 
 empty-start : (items : List Item) → empty_session (tree_of items) (packets_of items) (start items).host ≡ session_of (start items)
 unfolding start
 empty-start items = refl
 
-pub represents-start : (items : List Item) (t : Tree) (p : List UdevPacket) (host : HostState) (ds : List (Option ℕ)) (is : List (Option InterfaceState)) (es : List (Option EndpointState)) (rs : List (Option ReaderState)) (ws : List (Option WriterState)) (fs : List (Option FutureState)) → host ≡ (start items).host → ds ≡ replicate 64 None → is ≡ replicate 64 None → es ≡ replicate 64 None → rs ≡ replicate 64 None → ws ≡ replicate 64 None → fs ≡ replicate 64 None → t ≡ tree_of items → p ≡ packets_of items → Represents (session_made t p host ds is es rs ws fs) (start items)
-represents-start items t p host ds is es rs ws fs start_ d i e q w f known left =
-    made-empty t p host ds is es rs ws fs d i e q w f ∙ ap (empty_session t p) start_ ∙ ap (λ s. empty_session s p (start items).host) known
+pub represents-start : (items : List Item) (t : Tree) (p : List UdevPacket) (host : HostState) (ds : List (Option ℕ)) (is : List (Option InterfaceState)) (es : List (Option EndpointState)) (rs : List (Option ReaderState)) (ws : List (Option WriterState)) (cs : List (Option ClientState)) (fs : List (Option FutureState)) → host ≡ (start items).host → ds ≡ replicate 64 None → is ≡ replicate 64 None → es ≡ replicate 64 None → rs ≡ replicate 64 None → ws ≡ replicate 64 None → cs ≡ replicate 64 None → fs ≡ replicate 64 None → t ≡ tree_of items → p ≡ packets_of items → Represents (session_made t p host ds is es rs ws cs fs) (start items)
+represents-start items t p host ds is es rs ws cs fs start_ d i e q w g f known left =
+    made-empty t p host ds is es rs ws cs fs d i e q w g f ∙ ap (empty_session t p) start_ ∙ ap (λ s. empty_session s p (start items).host) known
     ∙ ap (λ l. empty_session (tree_of items) l (start items).host) left ∙ empty-start items
 
 spare-of_start : (items : List Item) → (start items).host.kernel.spare ≡ place_count items

@@ -8,9 +8,10 @@ use Rattle.usb_device_endpoint.specs.EndpointState.{EndpointState}
 use Rattle.usb_device_host.specs.HostState.{HostState}
 use Rattle.usb_io.specs.Readers.{ReaderState}
 use Rattle.usb_io.specs.Writers.{WriterState}
+use Rattle.usb_msg.specs.Clients.{ClientState}
 use Rattle.usb_session_text.specs.Calls.{condition_line}
 use Rattle.usb_session_calls.specs.Names.{named, change_named, freed, set_name, is_free}
-use Rattle.usb_session_calls.specs.State.{State, Endpoint, Reader, Writer}
+use Rattle.usb_session_calls.specs.State.{State, Endpoint, Reader, Writer, Client}
 use Rattle.usb_session_calls.specs.Answer.{Answer, condition_answer, if_open}
 use Rattle.usb_session_calls.specs.SessionState.{SessionState}
 use Rattle.usb_session_calls.specs.Relation.{Represents}
@@ -18,10 +19,11 @@ use Rattle.usb_session_calls.specs.Answered.{Answered, Answers}
 use Rattle.usb_session_calls.specs.OpenCalls.{CallAnswers}
 use Rattle.usb_session_calls.specs.ReaderCalls.{ReaderAnswers}
 use Rattle.usb_session_calls.specs.WriterCalls.{WriterAnswers}
+use Rattle.usb_session_calls.specs.ClientCalls.{ClientAnswers}
 use Rattle.usb_session_calls.proofs.Answering.{told-answered, answered-none, answered-some}
 use Rattle.usb_session_calls.proofs.NameLemmas.{freed-none, freed-free, put-changed}
 use Rattle.usb_session_calls.proofs.EndpointNameLemmas.{ChangedAt, put-changes}
-use Rattle.usb_session_calls.proofs.Called.{endpoints_kept, readers_kept, writers_kept}
+use Rattle.usb_session_calls.proofs.Called.{endpoints_kept, readers_kept, writers_kept, clients_kept}
 use Rattle.usb_session.proofs.KeptNames.{kept-at, kept-none}
 
 -- what was open was taken out of its name, and put back as it was left
@@ -44,7 +46,7 @@ same-none xs mid n taken was none rest = rest ∙ freed-none xs n (sym was ∙ n
 pub back-changes : {X : Type 0} (xs after : List (Option X)) (n : ℕ) (x y : X) → PutBack xs after n x y → ChangedAt xs after n (Some y)
 back-changes xs after n x y back = put-changes xs after n x y back.was back.put
 
-back-is : {X : Type 0} (xs after : List (Option X)) (n : ℕ) (x y : X) → PutBack xs after n x y → change_named (λ z. y) xs n ≡ after
+pub back-is : {X : Type 0} (xs after : List (Option X)) (n : ℕ) (x y : X) → PutBack xs after n x y → change_named (λ z. y) xs n ≡ after
 back-is xs after n x y back = sym (back.put ∙ put-changed (λ z. y) xs n x y back.was refl)
 
 -- what a call by name answers, with n the number of the name m: of what is open under it, and where nothing is
@@ -68,7 +70,7 @@ module _ {X Y E : Type 0} (names : State → List (Option X)) (kept : SessionSta
       (kept-none v (names state) (kept s) (keeps s state r) m (ap (named (kept s)) (sym same) ∙ none))
       (told-answered after state (string_bytes before) (string_bytes text) condition_line (stays ∙ r) line))
 
--- an endpoint was called, where the session has this host; or a reader; or a writer
+-- an endpoint was called, where the session has this host; or a reader; or a writer; or a client
 module _ {E : Type 0} (s : SessionState) (at now : HostState) (n m : ℕ) (same : n ≡ m) (before text : String Global) (result : Result Unit E) where
   pub answers-endpoint : (after : List (Option EndpointState)) (x y : EndpointState) (call : State → ℕ → Endpoint → Answer) → PutBack s.endpoints after n x y → CallAnswers at now x y before text result call
       → Answers (record s { host = at }) (record s { host = now; endpoints = after }) before text result (λ state. if_open (named state.endpoints m) (call state m) (condition_answer state))
@@ -95,4 +97,13 @@ module _ {E : Type 0} (s : SessionState) (at now : HostState) (n m : ℕ) (same 
       (on_ok_weaker result
       (λ answers state h r is seen.
       subst (λ l. Answered (record s { host = now; writers = l }) (string_bytes before) (string_bytes text) (call state n h)) (back-is s.writers after n x y back)
+      (answers (record s { host = at }) state n h r refl is seen)) answers)
+
+  pub answers-client : (after : List (Option ClientState)) (x y : ClientState) (call : State → ℕ → Client → Answer) → PutBack s.clients after n x y → ClientAnswers at now x y before text result call
+      → Answers (record s { host = at }) (record s { host = now; clients = after }) before text result (λ state. if_open (named state.clients m) (call state m) (condition_answer state))
+  answers-client after x y call back answers =
+      answers-some (λ (state : State). state.clients) (λ (z : SessionState). z.clients) (λ (z : Client). z.state) clients_kept (record s { host = at }) (record s { host = now; clients = after }) n m same before text result x call back.was
+      (on_ok_weaker result
+      (λ answers state h r is seen.
+      subst (λ l. Answered (record s { host = now; clients = l }) (string_bytes before) (string_bytes text) (call state n h)) (back-is s.clients after n x y back)
       (answers (record s { host = at }) state n h r refl is seen)) answers)

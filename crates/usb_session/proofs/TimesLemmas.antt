@@ -2,19 +2,19 @@
 use Rattle.std.proofs.Common.{ℕ, zero, suc, arith, ◌≡◌, ◌≢◌, ◌<◌, ◌≤◌, ◌+◌, true, List, [], ◌∷◌, ◌++◌, length, get_or, Option, Some, None, inl, inr, refl, sym, ◌∙◌, ap, subst}
 use Rattle.std.specs.Prelude.{◌==◌, if◌then◌else◌, count_by, All}
 use Rattle.std.proofs.lemmas.Bool.{cases_eq, eq-eqb, ne_eqb}
-use Rattle.std.proofs.lemmas.Option.{slice_get_within}
+use Rattle.std.proofs.lemmas.Option.{none-some}
 use Rattle.std.proofs.lemmas.List.Sums.{sum_by-cons}
 use Rattle.std.proofs.lemmas.List.Elements.{All-nil, All-cons}
 use Rattle.usb_device_host.specs.HostState.{HostState}
 use Rattle.usb_device.specs.Futures.{FutureState}
 use Rattle.usb_session_calls.specs.Names.{named, is_free, freed, set_name}
-use Rattle.usb_session_calls.specs.State.{State, Endpoint, tickets_at, endpoint_of_reader, endpoint_of_writer}
-use Rattle.usb_session_calls.specs.EndpointNames.{EndpointName, Own, OfReader, OfWriter, endpoint_under}
+use Rattle.usb_session_calls.specs.State.{Endpoint, tickets_at}
+use Rattle.usb_session_calls.specs.EndpointNames.{EndpointName, Own, OfReader, OfWriter, OfClientWriter, OfClientReader}
 use Rattle.usb_session.specs.ControlAnswers.{listed}
-use Rattle.usb_session_calls.proofs.NameLemmas.{place_of, free-none, free-within}
-use Rattle.usb_session_calls.proofs.EndpointNameLemmas.{ChangedAt, set-changes, freed-changes}
-use Rattle.usb_session.proofs.PrintLemmas.{mapped-some}
-use Rattle.usb_session.proofs.Does.{NameCounts, name_counts, Changes, own-changes, reader-changes, writer-changes}
+use Rattle.usb_session_calls.proofs.NameLemmas.{free-none, free-within}
+use Rattle.usb_session_calls.proofs.EndpointNameLemmas.{ChangedAt, number_of, set-changes, freed-changes}
+use Rattle.usb_session.proofs.Views.{NameCounts, IsAmong, View, named-within, with_open}
+use Rattle.usb_session.proofs.Does.{Changes, open-changes}
 
 abbrev pub one : ℕ → ℕ → ℕ
 one t u = if u == t then 1 else 0
@@ -126,10 +126,12 @@ of_kind t opened name n = sum_below (λ k. times_in tickets_at t (opened (name k
 
 -- and under so many names of each kind
 abbrev times_under : ℕ → NameCounts → (EndpointName → Option Endpoint) → ℕ
-times_under t c opened = of_kind t opened Own c.own + of_kind t opened OfReader c.readers + of_kind t opened OfWriter c.writers
+times_under t c opened =
+    of_kind t opened Own c.own + of_kind t opened OfReader c.readers + of_kind t opened OfWriter c.writers
+    + of_kind t opened OfClientWriter c.clients + of_kind t opened OfClientReader c.clients
 
-abbrev pub times_open : ℕ → State → ℕ
-times_open t state = times_under t (name_counts state) (endpoint_under state)
+abbrev pub times_open : ℕ → View → ℕ
+times_open t v = times_under t v.names v.opened
 
 -- and of the futures that are
 abbrev pub times_awaited : ℕ → List (Option FutureState) → ℕ
@@ -140,22 +142,6 @@ listed-once o t is = let here = one-same t in rw is (omega arith)
 
 pub listed-apart : (o : Option ℕ) (t : ℕ) → times t (listed o) ≡ 0 → o ≢ Some t
 listed-apart o t none is = let here = listed-once o t is in absurd (omega arith)
-
--- a name is one of so many
-abbrev pub IsAmong : NameCounts → EndpointName → Type 0
-IsAmong c (Own e) = e < c.own
-IsAmong c (OfReader r) = r < c.readers
-IsAmong c (OfWriter w) = w < c.writers
-
-named-within : {X : Type 0} (xs : List (Option X)) (n : ℕ) (x : X) → named xs n ≡ Some x → n < length xs
-named-within xs n x is = slice_get_within xs n (Some x) (place_of xs n x is)
-
-pub among-names : (state : State) (e : EndpointName) (h : Endpoint) → endpoint_under state e ≡ Some h → IsAmong (name_counts state) e
-among-names state (Own e) h is = named-within state.endpoints e h is
-among-names state (OfReader r) h is =
-    let x = mapped-some endpoint_of_reader (named state.readers r) h is in named-within state.readers r x.0 x.1
-among-names state (OfWriter w) h is =
-    let x = mapped-some endpoint_of_writer (named state.writers w) h is in named-within state.writers w x.0 x.1
 
 -- where what is open was changed under one name, or under none
 module _ (t : ℕ) (old new : EndpointName → Option Endpoint) where
@@ -171,77 +157,94 @@ module _ (t : ℕ) (old new : EndpointName → Option Endpoint) where
   same-under c same =
       let own = kind-same Own c.own (λ k. same (Own k)) in
       let readers = kind-same OfReader c.readers (λ k. same (OfReader k)) in
-      let writers = kind-same OfWriter c.writers (λ k. same (OfWriter k)) in omega arith
+      let writers = kind-same OfWriter c.writers (λ k. same (OfWriter k)) in
+      let client_writers = kind-same OfClientWriter c.clients (λ k. same (OfClientWriter k)) in
+      let client_readers = kind-same OfClientReader c.clients (λ k. same (OfClientReader k)) in omega arith
 
   changed-under : (c : NameCounts) (e : EndpointName) → IsAmong c e → ((d : EndpointName) → d ≢ e → new d ≡ old d) → times_under t c new + times_in tickets_at t (old e) ≡ times_under t c old + times_in tickets_at t (new e)
   changed-under c (Own e) within others =
-      let own = kind-change Own c.own e within (λ k apart. others (Own k) (λ same. apart (cc))) in
+      let own = kind-change Own c.own e within (λ k apart. others (Own k) (λ same. apart (ap number_of same))) in
       let readers = kind-same OfReader c.readers (λ k. others (OfReader k) (λ same. absurd (cc))) in
-      let writers = kind-same OfWriter c.writers (λ k. others (OfWriter k) (λ same. absurd (cc))) in omega arith
+      let writers = kind-same OfWriter c.writers (λ k. others (OfWriter k) (λ same. absurd (cc))) in
+      let client_writers = kind-same OfClientWriter c.clients (λ k. others (OfClientWriter k) (λ same. absurd (cc))) in
+      let client_readers = kind-same OfClientReader c.clients (λ k. others (OfClientReader k) (λ same. absurd (cc))) in omega arith
   changed-under c (OfReader r) within others =
       let own = kind-same Own c.own (λ k. others (Own k) (λ same. absurd (cc))) in
-      let readers = kind-change OfReader c.readers r within (λ k apart. others (OfReader k) (λ same. apart (cc))) in
-      let writers = kind-same OfWriter c.writers (λ k. others (OfWriter k) (λ same. absurd (cc))) in omega arith
+      let readers = kind-change OfReader c.readers r within (λ k apart. others (OfReader k) (λ same. apart (ap number_of same))) in
+      let writers = kind-same OfWriter c.writers (λ k. others (OfWriter k) (λ same. absurd (cc))) in
+      let client_writers = kind-same OfClientWriter c.clients (λ k. others (OfClientWriter k) (λ same. absurd (cc))) in
+      let client_readers = kind-same OfClientReader c.clients (λ k. others (OfClientReader k) (λ same. absurd (cc))) in omega arith
   changed-under c (OfWriter w) within others =
       let own = kind-same Own c.own (λ k. others (Own k) (λ same. absurd (cc))) in
       let readers = kind-same OfReader c.readers (λ k. others (OfReader k) (λ same. absurd (cc))) in
-      let writers = kind-change OfWriter c.writers w within (λ k apart. others (OfWriter k) (λ same. apart (cc))) in omega arith
+      let writers = kind-change OfWriter c.writers w within (λ k apart. others (OfWriter k) (λ same. apart (ap number_of same))) in
+      let client_writers = kind-same OfClientWriter c.clients (λ k. others (OfClientWriter k) (λ same. absurd (cc))) in
+      let client_readers = kind-same OfClientReader c.clients (λ k. others (OfClientReader k) (λ same. absurd (cc))) in omega arith
+  changed-under c (OfClientWriter m) within others =
+      let own = kind-same Own c.own (λ k. others (Own k) (λ same. absurd (cc))) in
+      let readers = kind-same OfReader c.readers (λ k. others (OfReader k) (λ same. absurd (cc))) in
+      let writers = kind-same OfWriter c.writers (λ k. others (OfWriter k) (λ same. absurd (cc))) in
+      let client_writers = kind-change OfClientWriter c.clients m within (λ k apart. others (OfClientWriter k) (λ same. apart (ap number_of same))) in
+      let client_readers = kind-same OfClientReader c.clients (λ k. others (OfClientReader k) (λ same. absurd (cc))) in omega arith
+  changed-under c (OfClientReader m) within others =
+      let own = kind-same Own c.own (λ k. others (Own k) (λ same. absurd (cc))) in
+      let readers = kind-same OfReader c.readers (λ k. others (OfReader k) (λ same. absurd (cc))) in
+      let writers = kind-same OfWriter c.writers (λ k. others (OfWriter k) (λ same. absurd (cc))) in
+      let client_writers = kind-same OfClientWriter c.clients (λ k. others (OfClientWriter k) (λ same. absurd (cc))) in
+      let client_readers = kind-change OfClientReader c.clients m within (λ k apart. others (OfClientReader k) (λ same. apart (ap number_of same))) in omega arith
 
 -- by what a state had open there, or has there now
-module _ {old new : State} {host : HostState} {e : EndpointName} {o : Option Endpoint} (t : ℕ) (changes : Changes old new host e o) where
-  open-by : IsAmong (name_counts old) e → times_open t new + times_in tickets_at t (endpoint_under old e) ≡ times_open t old + times_in tickets_at t o
+module _ {old new : View} {host : HostState} {e : EndpointName} {o : Option Endpoint} (t : ℕ) (changes : Changes old new host e o) where
+  open-by : IsAmong old.names e → times_open t new + times_in tickets_at t (old.opened e) ≡ times_open t old + times_in tickets_at t o
   open-by within =
-      ap (λ c. times_under t c (endpoint_under new) + times_in tickets_at t (endpoint_under old e)) changes.names
-      ∙ changed-under t (endpoint_under old) (endpoint_under new) (name_counts old) e within changes.endpoints.others
+      ap (λ c. times_under t c new.opened + times_in tickets_at t (old.opened e)) changes.names
+      ∙ changed-under t old.opened new.opened old.names e within changes.endpoints.others
       ∙ ap (λ p. times_open t old + times_in tickets_at t p) changes.endpoints.here
 
-  pub open-change : (h : Endpoint) → endpoint_under old e ≡ Some h → times_open t new + times t (tickets_at h) ≡ times_open t old + times_in tickets_at t o
-  open-change h was = ap (λ p. times_open t new + times_in tickets_at t p) (sym was) ∙ open-by (among-names old e h was)
+  pub open-change : (h : Endpoint) → old.opened e ≡ Some h → times_open t new + times t (tickets_at h) ≡ times_open t old + times_in tickets_at t o
+  open-change h was = ap (λ p. times_open t new + times_in tickets_at t p) (sym was) ∙ open-by (old.within e h was)
 
-  pub open-put : (h : Endpoint) → endpoint_under old e ≡ None → o ≡ Some h → times_open t new ≡ times_open t old + times t (tickets_at h)
+  pub open-put : (h : Endpoint) → old.opened e ≡ None → o ≡ Some h → times_open t new ≡ times_open t old + times t (tickets_at h)
   open-put h none some =
-      let within = subst (λ c. IsAmong c e) changes.names (among-names new e h (changes.endpoints.here ∙ some)) in
-      let was : times_in tickets_at t (endpoint_under old e) ≡ 0 = ap (times_in tickets_at t) none in
+      let within = subst (λ c. IsAmong c e) changes.names (new.within e h (changes.endpoints.here ∙ some)) in
+      let was : times_in tickets_at t (old.opened e) ≡ 0 = ap (times_in tickets_at t) none in
       let now : times_in tickets_at t o ≡ times t (tickets_at h) = ap (times_in tickets_at t) some in
       let all = open-by within in omega arith
 
-pub open-same : (t : ℕ) (old new : State) → name_counts new ≡ name_counts old → ((e : EndpointName) → endpoint_under new e ≡ endpoint_under old e) → times_open t new ≡ times_open t old
-open-same t old new names same = ap (λ c. times_under t c (endpoint_under new)) names ∙ same-under t (endpoint_under old) (endpoint_under new) (name_counts old) same
+pub open-same : (t : ℕ) (old new : View) → new.names ≡ old.names → ((e : EndpointName) → new.opened e ≡ old.opened e) → times_open t new ≡ times_open t old
+open-same t old new names same = ap (λ c. times_under t c new.opened) names ∙ same-under t old.opened new.opened old.names same
 
 -- what is open under one name, and under two
 one-under : (t : ℕ) (c : NameCounts) (opened : EndpointName → Option Endpoint) (e : EndpointName) → IsAmong c e → times_in tickets_at t (opened e) ≤ times_under t c opened
 one-under t c opened (Own e) within = let most = sum-one (λ k. times_in tickets_at t (opened (Own k))) c.own e within in omega arith
 one-under t c opened (OfReader r) within = let most = sum-one (λ k. times_in tickets_at t (opened (OfReader k))) c.readers r within in omega arith
 one-under t c opened (OfWriter w) within = let most = sum-one (λ k. times_in tickets_at t (opened (OfWriter k))) c.writers w within in omega arith
+one-under t c opened (OfClientWriter m) within = let most = sum-one (λ k. times_in tickets_at t (opened (OfClientWriter k))) c.clients m within in omega arith
+one-under t c opened (OfClientReader m) within = let most = sum-one (λ k. times_in tickets_at t (opened (OfClientReader k))) c.clients m within in omega arith
 
-pub open-one : (t : ℕ) (state : State) (e : EndpointName) (h : Endpoint) → endpoint_under state e ≡ Some h → times t (tickets_at h) ≤ times_open t state
-open-one t state e h is =
-    subst (λ p. times_in tickets_at t p ≤ times_open t state) is (one-under t (name_counts state) (endpoint_under state) e (among-names state e h is))
+pub open-one : (t : ℕ) (v : View) (e : EndpointName) (h : Endpoint) → v.opened e ≡ Some h → times t (tickets_at h) ≤ times_open t v
+open-one t v e h is = subst (λ p. times_in tickets_at t p ≤ times_open t v) is (one-under t v.names v.opened e (v.within e h is))
 
 -- nothing is open under a name any more
-emptied : State → EndpointName → State
-emptied state (Own e) = record state { endpoints = freed state.endpoints e }
-emptied state (OfReader r) = record state { readers = freed state.readers r }
-emptied state (OfWriter w) = record state { writers = freed state.writers w }
+emptied : View → EndpointName → View
+emptied v e = with_open v v.host e None (λ x some. absurd (none-some x some))
 
-emptied-changes : (state : State) (e : EndpointName) → Changes state (emptied state e) state.host e None
+emptied-changes : (v : View) (e : EndpointName) → Changes v (emptied v e) v.host e None
 unfolding emptied
-emptied-changes state (Own e) = own-changes state state.host (freed state.endpoints e) e None (freed-changes state.endpoints e)
-emptied-changes state (OfReader r) = reader-changes state state.host (freed state.readers r) r None (freed-changes state.readers r)
-emptied-changes state (OfWriter w) = writer-changes state state.host (freed state.writers w) w None (freed-changes state.writers w)
+emptied-changes v e = open-changes v v.host e None (λ x some. absurd (none-some x some))
 
-pub open-two : (t : ℕ) (state : State) (d e : EndpointName) (g h : Endpoint) → d ≢ e → endpoint_under state d ≡ Some g → endpoint_under state e ≡ Some h → times t (tickets_at g) + times t (tickets_at h) ≤ times_open t state
-open-two t state d e g h apart first second =
-    let gone = emptied-changes state e in
+pub open-two : (t : ℕ) (v : View) (d e : EndpointName) (g h : Endpoint) → d ≢ e → v.opened d ≡ Some g → v.opened e ≡ Some h → times t (tickets_at g) + times t (tickets_at h) ≤ times_open t v
+open-two t v d e g h apart first second =
+    let gone = emptied-changes v e in
     let change = open-change t gone h second in
-    let most = open-one t (emptied state e) d g (gone.endpoints.others d apart ∙ first) in omega arith
+    let most = open-one t (emptied v e) d g (gone.endpoints.others d apart ∙ first) in omega arith
 
 -- names under which nothing is open
-pub open-none : (t : ℕ) (state : State) → ((e : EndpointName) → endpoint_under state e ≡ None) → times_open t state ≡ 0
-open-none t state none =
-    let c = name_counts state in
-    let kind : (name : ℕ → EndpointName) (n : ℕ) → of_kind t (endpoint_under state) name n ≡ 0 = λ name n. sum-none (λ k. times_in tickets_at t (endpoint_under state (name k))) n (λ k. ap (times_in tickets_at t) (none (name k))) in
-    omega (arith, kind Own c.own, kind OfReader c.readers, kind OfWriter c.writers)
+pub open-none : (t : ℕ) (v : View) → ((e : EndpointName) → v.opened e ≡ None) → times_open t v ≡ 0
+open-none t v none =
+    let c = v.names in
+    let kind : (name : ℕ → EndpointName) (n : ℕ) → of_kind t v.opened name n ≡ 0 = λ name n. sum-none (λ k. times_in tickets_at t (v.opened (name k))) n (λ k. ap (times_in tickets_at t) (none (name k))) in
+    omega (arith, kind Own c.own, kind OfReader c.readers, kind OfWriter c.writers, kind OfClientWriter c.clients, kind OfClientReader c.clients)
 
 -- so with futures
 awaited-by : (t : ℕ) (fs after : List (Option FutureState)) (n : ℕ) (o : Option FutureState) → ChangedAt fs after n o → n < length fs → times_awaited t after + times_in ticket_in t (named fs n) ≡ times_awaited t fs + times_in ticket_in t o

@@ -82,6 +82,7 @@ sound-packets s after sound =
       endpoint_names = sound.endpoint_names;
       reader_names = sound.reader_names;
       writer_names = sound.writer_names;
+      client_names = sound.client_names;
       devices_stand = sound.devices_stand;
       devices_counted = sound.devices_counted;
       devices_held = sound.devices_held;

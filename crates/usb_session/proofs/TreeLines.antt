@@ -76,4 +76,4 @@ opened_probed-does state d (Err error) = told-does state (sysfs_line error) (sys
 
 pub open_path-does : (state : State) (d : ℕ) (path : List ℕ) → Does state (open_path_answer state d path)
 unfolding open_path_answer
-open_path-does state d path = free-does (λ free. opened_probed-does state d (probe state.tree path))
+open_path-does state d path = free-does state (λ free. opened_probed-does state d (probe state.tree path))

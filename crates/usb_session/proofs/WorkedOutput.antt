@@ -17,6 +17,7 @@ use Rattle.usb_device_endpoint.specs.Waits.{waited}
 use Rattle.usb_device_endpoint.specs.Blocking.{waited_by_seconds}
 use Rattle.usb_io.specs.Reads.{turned}
 use Rattle.usb_io.specs.Fronts.{drained}
+use Rattle.usb_msg.specs.Responses.{gathered}
 use Rattle.usb_device_ledger.specs.Owners.{is_used_among, is_owned_among}
 use Rattle.usb_device_ledger.specs.Releases.{claim_ended, claim_of, endpoints_left}
 use Rattle.usb_device_host.specs.Releases.{endpoint_left, owner_gone, settled}
@@ -54,8 +55,10 @@ use Rattle.usb_session_calls.specs.Clones.{clone_device_answer, clone_interface_
 use Rattle.usb_session_streams.specs.Faults.{io_line}
 use Rattle.usb_session_streams.specs.Reads.{read_line, buffer_line}
 use Rattle.usb_session_streams.specs.Writes.{wrote_line}
+use Rattle.usb_session_streams.specs.ClientLines.{tag_line, body_line}
 use Rattle.usb_session_calls.specs.Readers.{reader_answer, inner_answer, close_reader_answer, reader_closed}
 use Rattle.usb_session_calls.specs.Writers.{writer_answer, writer_inner_answer, close_writer_answer, writer_closed}
+use Rattle.usb_session_calls.specs.Clients.{client_answer, close_client_answer, client_closed}
 use Rattle.usb_session_calls.specs.Controls.{on_control}
 use Rattle.usb_session.specs.Futures.{start_answer, on_future}
 use Rattle.usb_session_calls.specs.Closes.{close_answer, close_future_answer, close_device_answer, close_interface_answer, release_answer, closed}
@@ -65,6 +68,7 @@ use Rattle.usb_session_calls.specs.InterfaceCalls.{on_interface}
 use Rattle.usb_session_calls.specs.EndpointCalls.{on_endpoint}
 use Rattle.usb_session_calls.specs.CalledReaders.{on_reader}
 use Rattle.usb_session_calls.specs.CalledWriters.{on_writer}
+use Rattle.usb_session_calls.specs.CalledClients.{on_client}
 use Rattle.usb_session.specs.CallAnswers.{call_answer}
 use Rattle.usb_session.specs.Answers.{answer}
 use Rattle.usb_session.specs.Ends.{future_closed_under, interface_closed, name_closed, all_closed, ended}
@@ -73,7 +77,7 @@ use Rattle.usb_session.specs.Output.{start, output}
 
 -- all that an output unfolds
 unfoldable pub output_on_literals : ⊤
-unfolding output start answer call_of call_answer on_device on_interface on_endpoint on_reader on_writer on_control on_future reader_answer inner_answer close_reader_answer reader_closed turned read_line buffer_line io_line writer_answer writer_inner_answer close_writer_answer writer_closed drained wrote_line start_answer close_future_answer future_closed_under host_started host_awaited timer_turned data_line failed_line languages_told string_told utf16_chars encode open_answer claim_answer endpoint_answer close_answer clone_device_answer clone_interface_answer close_device_answer close_interface_answer release_answer stepped_all closed interface_closed name_closed all_closed ended fate_line fate_lines named is_free change_named freed set_name is_used_among is_owned_among claim_ended claim_of owner_gone settled endpoint_left endpoints_left device_changed called descriptors_tried open_tried host_opened open_key host_claimed host_asked endpoint_of_setting host_tries host_submitted host_refused host_discarded host_left host_ended host_taken host_abandoned came host_stepped host_reaped host_turned host_turn waited waited_by_seconds handle_closed handle_cloned after_reset host_detached host_attached host_reset host_configured host_speed_asked speed_of_code alt_setting_set finished transfer_completion completion unreaped chain groups concatenated configurations interfaces_among hex_word error_line done_line count_line now_line ticket_line device_line class_words product_words string_words class_code endpoint_words interface_words setting_words configuration_words descriptors_line configuration_line no_configuration_line speed_line alt_setting_line digits encode_with
+unfolding output start answer call_of call_answer on_device on_interface on_endpoint on_reader on_writer on_client on_control on_future reader_answer inner_answer close_reader_answer reader_closed turned read_line buffer_line io_line writer_answer writer_inner_answer close_writer_answer writer_closed client_answer close_client_answer client_closed gathered tag_line body_line drained wrote_line start_answer close_future_answer future_closed_under host_started host_awaited timer_turned data_line failed_line languages_told string_told utf16_chars encode open_answer claim_answer endpoint_answer close_answer clone_device_answer clone_interface_answer close_device_answer close_interface_answer release_answer stepped_all closed interface_closed name_closed all_closed ended fate_line fate_lines named is_free change_named freed set_name is_used_among is_owned_among claim_ended claim_of owner_gone settled endpoint_left endpoints_left device_changed called descriptors_tried open_tried host_opened open_key host_claimed host_asked endpoint_of_setting host_tries host_submitted host_refused host_discarded host_left host_ended host_taken host_abandoned came host_stepped host_reaped host_turned host_turn waited waited_by_seconds handle_closed handle_cloned after_reset host_detached host_attached host_reset host_configured host_speed_asked speed_of_code alt_setting_set finished transfer_completion completion unreaped chain groups concatenated configurations interfaces_among hex_word error_line done_line count_line now_line ticket_line device_line class_words product_words string_words class_code endpoint_words interface_words setting_words configuration_words descriptors_line configuration_line no_configuration_line speed_line alt_setting_line digits encode_with
 output_on_literals = tt
 
 -- a line of a script, the item that it is, and the line that it is answered, which is empty where it has no answer

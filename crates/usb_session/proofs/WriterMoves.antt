@@ -20,7 +20,8 @@ use Rattle.usb_session_calls.proofs.NameLemmas.{free-none, length-freed, length-
 use Rattle.usb_session_calls.proofs.Called.{own-open, writer-open, endpoints_kept, writers_kept}
 use Rattle.usb_session.proofs.KeptNames.{kept-at, kept-none, kept-free}
 use Rattle.usb_session.proofs.Replaced.{writer_endpoint}
-use Rattle.usb_session.proofs.Moves.{Moves, sound-moved, is-direction, not-direction, barred-used, barred-direction}
+use Rattle.usb_session_calls.proofs.Moved.{Moves}
+use Rattle.usb_session.proofs.Moves.{sound-moved, is-direction, not-direction, barred-used, barred-direction}
 
 -- a writer is open in place of an endpoint, and an endpoint in place of a writer
 represents-made : (s : SessionState) (state : State) (e w : ℕ) (x : Writer) → Represents s state → Represents (record s { endpoints = freed s.endpoints e; writers = set_name s.writers w x.state }) (record state { endpoints = freed state.endpoints e; writers = set_name state.writers w x })
@@ -60,7 +61,7 @@ module _ (s : SessionState) (e w : ℕ) where
     made-sound sound same =
         rw (rest, put)
         (sound-moved s (freed s.endpoints e) s.readers (set_name s.writers w y) (Own e) (OfWriter w) y.endpoint sound
-        (record { endpoints = length-freed s.endpoints e; readers = refl; writers = length-set_name s.writers w y }) (made y (was ∙ ap (λ z. Some z) (sym same)) free))
+        (record { endpoints = length-freed s.endpoints e; readers = refl; writers = length-set_name s.writers w y; clients = refl }) (made y (was ∙ ap (λ z. Some z) (sym same)) free))
 
     pub writer-gives : (size : ℕ) → y ≡ fresh_writer x size → direction_of_address x.address ≡ Out → (state : State) → Represents s state → Gives (record s { endpoints = es; writers = xs }) ok_line (writer_answer state w e size)
     unfolding writer_answer
@@ -97,7 +98,7 @@ module _ (s : SessionState) (e w : ℕ) where
     given-sound sound =
         rw (put, rest, same)
         (sound-moved s (set_name s.endpoints e y.endpoint) s.readers (freed s.writers w) (OfWriter w) (Own e) y.endpoint sound
-        (record { endpoints = length-set_name s.endpoints e y.endpoint; readers = refl; writers = length-freed s.writers w }) (given_back y was free))
+        (record { endpoints = length-set_name s.endpoints e y.endpoint; readers = refl; writers = length-freed s.writers w; clients = refl }) (given_back y was free))
 
     pub inner-gives : (state : State) → Represents s state → Gives (record s { endpoints = es; writers = xs }) ok_line (writer_inner_answer state e w)
     unfolding writer_inner_answer

@@ -100,7 +100,7 @@ nothing-is [] [] c is = (refl, refl, same_Some no_calls c is)
 nothing-is [] (t ∷ ts) c is = absurd (none-some c is)
 nothing-is (t ∷ ts) pending c is = absurd (none-some c is)
 
-output-of : (h : Endpoint) → has_direction Out h.state ≡ true → h.state.address < 128
+pub output-of : (h : Endpoint) → has_direction Out h.state ≡ true → h.state.address < 128
 output-of h is =
     elim (cases_Bool (nat_le 128 h.state.address)) [ inl below ↦ absurd (let e : same_direction In Out ≡ true = rw below at is in cc) | inr other ↦ leb-false 128 h.state.address other ]
 

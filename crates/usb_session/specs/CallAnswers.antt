@@ -2,7 +2,7 @@
 use Rattle.usb_session_text.specs.Completions.{now_line}
 use Rattle.usb_script_lines.specs.declared.item.Item.{Item}
 use Rattle.usb_session_calls.specs.declared.call.Call.{Call}
-use Rattle.usb_session_calls.specs.declared.call.Call.TheVariants.{Setup, Steps, Now, Tree, Open, Close, Device, Interface, Endpoint, Reader, Writer, Control, Future}
+use Rattle.usb_session_calls.specs.declared.call.Call.TheVariants.{Setup, Steps, Now, Tree, Open, Close, Device, Interface, Endpoint, Reader, Writer, Client, Control, Future}
 use Rattle.usb_session_calls.specs.State.{State}
 use Rattle.usb_session_calls.specs.Answer.{Answer, answer_with, silent}
 use Rattle.usb_session_calls.specs.Steps.{along_steps, stepped_all}
@@ -14,6 +14,7 @@ use Rattle.usb_session_calls.specs.InterfaceCalls.{on_interface}
 use Rattle.usb_session_calls.specs.EndpointCalls.{on_endpoint}
 use Rattle.usb_session_calls.specs.CalledReaders.{on_reader}
 use Rattle.usb_session_calls.specs.CalledWriters.{on_writer}
+use Rattle.usb_session_calls.specs.CalledClients.{on_client}
 use Rattle.usb_session_calls.specs.Controls.{on_control}
 use Rattle.usb_session.specs.Futures.{on_future}
 
@@ -29,6 +30,7 @@ call_answer state (Interface i call) = on_interface state i call
 call_answer state (Endpoint e call steps) = along_steps state steps (λ s. on_endpoint s e call)
 call_answer state (Reader r call steps) = along_steps state steps (λ s. on_reader s r call)
 call_answer state (Writer w call steps) = along_steps state steps (λ s. on_writer s w call)
+call_answer state (Client m call steps) = along_steps state steps (λ s. on_client s m call)
 call_answer state (Control call steps) = along_steps state steps (λ s. on_control s call)
 call_answer state (Future n call) = on_future state n call
 

@@ -12,7 +12,7 @@ use Rattle.usb_session_calls.specs.State.{State}
 use Rattle.usb_session_calls.specs.Answer.{Answer}
 use Rattle.usb_session.specs.Answers.{answer}
 use Rattle.usb_session.specs.Below.{given_below}
-use Rattle.usb_session.specs.Ends.{readers_closed, writers_closed, endpoints_closed, future_closed_under}
+use Rattle.usb_session.specs.Ends.{streams_closed, endpoints_closed, future_closed_under}
 use Rattle.usb_session.specs.Output.{start}
 use Rattle.usb_session.specs.ControlAnswers.{listed, future_gone}
 
@@ -37,7 +37,7 @@ futures_at_end = given_below future_closed_under (λ s k. future_closed_as s.hos
 
 -- those that these items close, and then the end of the session
 abbrev pub closed_futures_from : State → List Item → List ClosedFuture
-closed_futures_from state [] = futures_at_end (endpoints_closed (writers_closed (readers_closed state 64) 64) 64) 64
+closed_futures_from state [] = futures_at_end (endpoints_closed (streams_closed state) 64) 64
 closed_futures_from state (item ∷ items) = future_closed_by state (call_of item) (answer state item) ++ closed_futures_from (answer state item).state items
 
 -- those of a script

@@ -1,5 +1,5 @@
--- The end of a session: what is open is closed, readers by number, then writers, then endpoints, then futures, then interfaces and then devices, each by number;
--- then the tickets are discarded by number, and reaped by number.
+-- The end of a session: what is open is closed, clients of messages by number, then readers, then writers, then endpoints, then futures,
+-- then interfaces and then devices, each by number; then the tickets are discarded by number, and reaped by number.
 use Rattle.std.specs.Prelude.{ℕ, Option, Some, None}
 use Rattle.usb_device_host.specs.HostState.{HostState}
 use Rattle.usb_device_host.specs.Finishes.{finished}
@@ -11,8 +11,12 @@ use Rattle.usb_session.specs.Below.{below}
 use Rattle.usb_session_calls.specs.Closes.{closed, without_future, without_interface, without_device}
 use Rattle.usb_session_calls.specs.Readers.{reader_closed}
 use Rattle.usb_session_calls.specs.Writers.{writer_closed}
+use Rattle.usb_session_calls.specs.Clients.{client_closed}
 
--- the readers of the names below k are closed, in order; and so the writers, the endpoints and the others
+-- the clients of the names below k are closed, in order; and so the readers, the writers, the endpoints and the others
+abbrev pub clients_closed : State → ℕ → State
+clients_closed = below client_closed
+
 abbrev pub readers_closed : State → ℕ → State
 readers_closed = below reader_closed
 
@@ -59,9 +63,13 @@ name_closed state d = device_closed_at state d (named state.devices d)
 abbrev pub devices_closed : State → ℕ → State
 devices_closed = below name_closed
 
--- all readers and writers, then all endpoints, all futures, all interfaces and then all devices are closed
+-- all clients, then all readers and all writers, whose endpoints go with them
+abbrev pub streams_closed : State → State
+streams_closed state = writers_closed (readers_closed (clients_closed state 64) 64) 64
+
+-- and then all endpoints, all futures, all interfaces and all devices are closed
 unfoldable pub all_closed : State → State
-all_closed state = devices_closed (interfaces_closed (futures_closed (endpoints_closed (writers_closed (readers_closed state 64) 64) 64) 64) 64) 64
+all_closed state = devices_closed (interfaces_closed (futures_closed (endpoints_closed (streams_closed state) 64) 64) 64) 64
 
 -- the host at the end of the session
 unfoldable pub ended : State → HostState

@@ -23,6 +23,7 @@ pub mod Served
 pub mod Behind
 pub mod Framed
 pub mod WrittenScripts
+pub mod ClientsServed
 pub mod Printed
 pub mod ControlAnswers
 pub mod ClosedFutures

@@ -12,6 +12,7 @@ use Rattle.usb_session.specs.Claims.{claim_answer}
 use Rattle.usb_session_calls.specs.Endpoints.{endpoint_answer}
 use Rattle.usb_session_calls.specs.Readers.{reader_answer, inner_answer, close_reader_answer}
 use Rattle.usb_session_calls.specs.Writers.{writer_answer, writer_inner_answer, close_writer_answer}
+use Rattle.usb_session_calls.specs.Clients.{client_answer, close_client_answer}
 use Rattle.usb_session_calls.specs.Controls.{request_for, request_with}
 use Rattle.usb_session.specs.Futures.{start_answer}
 use Rattle.usb_session_calls.specs.Closes.{close_answer, close_future_answer, close_device_answer, close_interface_answer, release_answer}
@@ -27,6 +28,7 @@ on_open state (opens.Reader r e size) = reader_answer state r e size
 on_open state (opens.ReaderInner e r) = inner_answer state e r
 on_open state (opens.Writer w e size) = writer_answer state w e size
 on_open state (opens.WriterInner e w) = writer_inner_answer state e w
+on_open state (opens.Client m out inp) = client_answer state m out inp
 on_open state (opens.ControlIn n target setup wanted timeout) = start_answer state n target (request_for setup wanted) timeout
 on_open state (opens.ControlOut n target setup bytes timeout) = start_answer state n target (request_with setup bytes) timeout
 
@@ -37,4 +39,5 @@ on_close state (closes.Release i) = release_answer state i
 on_close state (closes.Endpoint e) = close_answer state e
 on_close state (closes.Reader r) = close_reader_answer state r
 on_close state (closes.Writer w) = close_writer_answer state w
+on_close state (closes.Client m) = close_client_answer state m
 on_close state (closes.Future n) = close_future_answer state n

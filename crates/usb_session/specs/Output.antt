@@ -56,6 +56,7 @@ start items =
       endpoints = replicate 64 None;
       readers = replicate 64 None;
       writers = replicate 64 None;
+      clients = replicate 64 None;
       futures = replicate 64 None;
       tree = tree_of items;
       packets = packets_of items;

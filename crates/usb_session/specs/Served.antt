@@ -17,8 +17,11 @@ use Rattle.usb_device_host.specs.HostState.{HostState}
 use Rattle.usb_device_ledger.specs.EndedTickets.{end_at}
 use Rattle.usb_device_host.specs.Finishes.{HasEnds}
 use Rattle.usb_session_text.specs.Completions.{polled_line}
-use Rattle.usb_session_calls.specs.State.{State, Endpoint, tickets_at, tickets_of}
-use Rattle.usb_session_calls.specs.EndpointNames.{EndpointName, Own, OfReader, OfWriter, endpoint_under}
+use Rattle.usb_device_endpoint.specs.Closes.{after_close}
+use Rattle.usb_device_host.specs.HostCalls.{host_calls}
+use Rattle.usb_session_calls.specs.Names.{named}
+use Rattle.usb_session_calls.specs.State.{State, Endpoint, Client, tickets_at, tickets_of, endpoint_of_client_writer, endpoint_of_client_reader}
+use Rattle.usb_session_calls.specs.EndpointNames.{EndpointName, Own, OfReader, OfWriter, OfClientWriter, OfClientReader, endpoint_under}
 use Rattle.usb_session_calls.specs.Calls.{call_of, is_of_control}
 use Rattle.usb_session_calls.specs.Answer.{Answer}
 use Rattle.usb_session.specs.Crowded.{bars_line}
@@ -26,8 +29,9 @@ use Rattle.usb_session.specs.Answers.{answer}
 use Rattle.usb_session_calls.specs.Closes.{closed}
 use Rattle.usb_session_calls.specs.Readers.{reader_closed}
 use Rattle.usb_session_calls.specs.Writers.{writer_closed}
+use Rattle.usb_session_calls.specs.Clients.{client_closed}
 use Rattle.usb_session.specs.Below.{given_below}
-use Rattle.usb_session.specs.Ends.{readers_closed, writers_closed}
+use Rattle.usb_session.specs.Ends.{clients_closed, readers_closed, streams_closed}
 use Rattle.usb_session.specs.Output.{start, final_host}
 
 -- a closed endpoint: the endpoint as it is when it is closed, the journal right before that, and the lines that
@@ -41,11 +45,12 @@ pub record ClosedEndpoint : Type 0 where
 abbrev pub taken_under : State → EndpointName → List ℕ
 taken_under state e = option_map_or (λ (h : Endpoint). h.taken) (endpoint_under state e) []
 
--- whether a reader or a writer was made of the endpoint that is open under a name
+-- whether a reader, a writer or a client was made of the endpoint that is open under a name
 abbrev pub was_streamed_under : State → EndpointName → Bool
 was_streamed_under state e = option_map_or (λ (h : Endpoint). h.was_streamed) (endpoint_under state e) false
 
--- the line of an answer, where the answer takes a ticket of what is open under a name, of which no reader or writer was made
+-- the line of an answer, where the answer takes a ticket of what is open under a name, of which no reader, writer or
+-- client was made
 abbrev pub line_taking : State → Answer → EndpointName → List (List ℕ)
 line_taking state a e = if nat_lt (length (taken_under state e)) (length (taken_under a.state e)) && not (was_streamed_under a.state e) then a.line ∷ [] else []
 
@@ -63,19 +68,42 @@ closed_as past lines (Some e) = record { endpoint = e; past = past; lines = line
 abbrev pub closed_under : State → (EndpointName → List (List ℕ)) → EndpointName → List ClosedEndpoint
 closed_under state lines e = closed_as state.host.kernel.past (lines e) (endpoint_under state e)
 
--- the endpoint that a call closes, which may be a reader's or a writer's
+-- the two endpoints of a client that is closed now, if there is one: its writer's, and then its
+-- reader's
+abbrev pub client_closed_as : HostState → (EndpointName → List (List ℕ)) → ℕ → Option Client → List ClosedEndpoint
+client_closed_as h lines m None = []
+client_closed_as h lines m (Some x) =
+    record {
+      endpoint = endpoint_of_client_writer x;
+      past = h.kernel.past;
+      lines = lines (OfClientWriter m);
+    } ∷ record {
+      endpoint = endpoint_of_client_reader x;
+      past = (after_close host_calls h x.state.writer.endpoint).kernel.past;
+      lines = lines (OfClientReader m);
+    } ∷ []
+
+-- what is open under the name of a client, where it is closed now
+abbrev pub client_closed_under : State → (EndpointName → List (List ℕ)) → ℕ → List ClosedEndpoint
+client_closed_under state lines m = client_closed_as state.host lines m (named state.clients m)
+
+-- the endpoints that a call closes, which may be a reader's or a writer's, or the two of a client
 abbrev pub closed_by_call : State → (EndpointName → List (List ℕ)) → Call → List ClosedEndpoint
 closed_by_call state lines (Close (closes.Endpoint e)) = closed_under state lines (Own e)
 closed_by_call state lines (Close (closes.Reader r)) = closed_under state lines (OfReader r)
 closed_by_call state lines (Close (closes.Writer w)) = closed_under state lines (OfWriter w)
+closed_by_call state lines (Close (closes.Client m)) = client_closed_under state lines m
 closed_by_call state lines call = []
 
--- the one that an item closes: none where the session is crowded
+-- those that an item closes: none where the session is crowded
 abbrev pub closed_by : State → (EndpointName → List (List ℕ)) → Item → List ClosedEndpoint
 closed_by state lines item = if bars_line state item then [] else closed_by_call state lines (call_of item)
 
--- those of readers that the end of the session closes, of the names below k in order; then those of writers; and then those that have
--- names of their own
+-- those of clients that the end of the session closes, of the names below k in order; then those of
+-- readers; then those of writers; and then those that have names of their own
+abbrev pub messaged_at_end : State → (EndpointName → List (List ℕ)) → ℕ → List ClosedEndpoint
+messaged_at_end state lines = given_below client_closed (λ s k. client_closed_under s lines k) state
+
 abbrev pub read_at_end : State → (EndpointName → List (List ℕ)) → ℕ → List ClosedEndpoint
 read_at_end state lines = given_below reader_closed (λ s k. closed_under s lines (OfReader k)) state
 
@@ -88,7 +116,9 @@ closed_at_end state lines = given_below closed (λ s k. closed_under s lines (Ow
 -- the endpoints that these items close, and then the end of the session
 abbrev pub closed_endpoints_from : State → (EndpointName → List (List ℕ)) → List Item → List ClosedEndpoint
 closed_endpoints_from state lines [] =
-    read_at_end state lines 64 ++ written_at_end (readers_closed state 64) lines 64 ++ closed_at_end (writers_closed (readers_closed state 64) 64) lines 64
+    messaged_at_end state lines 64 ++ read_at_end (clients_closed state 64) lines 64
+    ++ written_at_end (readers_closed (clients_closed state 64) 64) lines 64
+    ++ closed_at_end (streams_closed state) lines 64
 closed_endpoints_from state lines (item ∷ items) = closed_by state lines item ++ closed_endpoints_from (answer state item).state (lines_behind state (answer state item) lines) items
 
 -- each endpoint that a script opens, as it is when it is closed
@@ -116,8 +146,8 @@ abbrev pub end_given_up : List Event → ℕ → TicketEnd
 end_given_up past t = if is_some (completion past t) then Dropped else Reclaimed
 
 -- An endpoint's tickets are in the order of their submission (`rising`). The first of them were taken: these have the end `Taken`,
--- and where no reader or writer was made of it the lines that were printed are those of their completions by the last journal, in
--- this order (`printed`; a wait prints the same line as a poll, but a reader prints bytes, and a writer counts). The others were
+-- and where no reader, writer or client was made of it the lines that were printed are those of their completions by the last
+-- journal, in this order (`printed`; a wait prints the same line as a poll, but a reader prints bytes, a writer counts, and a client answers). The others were
 -- given up at the close, with the end that comes of that (`others`)
 pub record IsServedInOrder (last : HostState) (h : ClosedEndpoint) : Type 0 where
   pub rising : IsStrictlyIncreasing (tickets_at h.endpoint)

@@ -82,6 +82,7 @@ impl Session {
                 transfer_size,
             } => self.writer(line, writer, endpoint, transfer_size),
             OpenCall::WriterInner { endpoint, writer } => self.writer_inner(line, endpoint, writer),
+            OpenCall::Client { client, out, inp } => self.client(line, client, out, inp),
             OpenCall::ControlIn {
                 future,
                 target,
@@ -113,6 +114,7 @@ impl Session {
             CloseCall::Endpoint(name) => self.close(line, name),
             CloseCall::Reader(name) => self.close_reader(line, name),
             CloseCall::Writer(name) => self.close_writer(line, name),
+            CloseCall::Client(name) => self.close_client(line, name),
             CloseCall::Future(name) => self.close_future(line, name),
         }
     }
@@ -157,6 +159,7 @@ impl Session {
             Call::Endpoint(name, call, steps) => self.on_endpoint(line, name, call, steps),
             Call::Reader(name, call, steps) => self.on_reader(line, name, call, steps),
             Call::Writer(name, call, steps) => self.on_writer(line, name, call, steps),
+            Call::Client(name, call, steps) => self.on_client(line, name, call, steps),
             Call::Control(call, steps) => self.on_control(line, call, steps),
             Call::Future(name, call) => self.on_future(line, name, call),
         }

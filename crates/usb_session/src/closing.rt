@@ -25,6 +25,7 @@ impl Session {
         ensures freed { self.new.endpoints ≡ freed self.old.endpoints number }
         ensures readers { self.new.readers ≡ self.old.readers }
         ensures writers { self.new.writers ≡ self.old.writers }
+        ensures clients { self.new.clients ≡ self.old.clients }
         ensures spare { self.new.host.kernel.spare ≡ self.old.host.kernel.spare }
     {
         let Some(endpoint) = take_at(&mut self.endpoints, number) else {

@@ -8,7 +8,7 @@ ghost use Rattle.usb_device_host.specs.Finishes.{HasEnds, HasCompletions, KeepsN
 ghost use Rattle.usb_device_tables.specs.History.{value_at};
 ghost use Rattle.usb_session_calls.specs.State.{State};
 ghost use Rattle.usb_session_calls.specs.Names.{named, freed};
-ghost use Rattle.usb_session.specs.Ends.{readers_closed, writers_closed, endpoints_closed, futures_closed, interfaces_closed, devices_closed, ended};
+ghost use Rattle.usb_session.specs.Ends.{clients_closed, readers_closed, writers_closed, streams_closed, endpoints_closed, futures_closed, interfaces_closed, devices_closed, ended};
 ghost use Rattle.usb_session_calls.specs.Relation.{Represents};
 ghost use Rattle.usb_session_calls.specs.SessionState.{open_under};
 
@@ -18,11 +18,26 @@ use usb_script_lines::Name;
 use usb_session_calls::drop_names;
 
 impl Session {
+    /// Closes the clients of messages by number.
+    fn close_clients(&mut self)
+        ensures stands { (state : State) → Represents self.old state →
+            Represents self.new (clients_closed state 64) }
+        ensures none { (m : ℕ) → m < 64 → named self.new.clients m ≡ None }
+    {
+        for number in 0..64 {
+            let Some(name) = Name::new(number) else {
+                unreachable!()
+            };
+            self.close_client_at(name);
+        }
+    }
+
     /// Closes the readers by number.
     fn close_readers(&mut self)
         ensures stands { (state : State) → Represents self.old state →
             Represents self.new (readers_closed state 64) }
         ensures none { (r : ℕ) → r < 64 → named self.new.readers r ≡ None }
+        ensures clients { self.new.clients ≡ self.old.clients }
     {
         for number in 0..64 {
             let Some(name) = Name::new(number) else {
@@ -38,6 +53,7 @@ impl Session {
             Represents self.new (writers_closed state 64) }
         ensures none { (w : ℕ) → w < 64 → named self.new.writers w ≡ None }
         ensures readers { self.new.readers ≡ self.old.readers }
+        ensures clients { self.new.clients ≡ self.old.clients }
     {
         for number in 0..64 {
             let Some(name) = Name::new(number) else {
@@ -54,10 +70,26 @@ impl Session {
         ensures none { (e : ℕ) → e < 64 → named self.new.endpoints e ≡ None }
         ensures readers { self.new.readers ≡ self.old.readers }
         ensures writers { self.new.writers ≡ self.old.writers }
+        ensures clients { self.new.clients ≡ self.old.clients }
     {
         for name in 0..64 {
             self.close_endpoint(name);
         }
+    }
+
+    /// Closes the clients, then the readers, then the writers and then the endpoints, each by number.
+    fn close_streams(&mut self)
+        ensures stands { (state : State) → Represents self.old state →
+            Represents self.new (endpoints_closed (streams_closed state) 64) }
+        ensures clients { (m : ℕ) → m < 64 → named self.new.clients m ≡ None }
+        ensures readers { (r : ℕ) → r < 64 → named self.new.readers r ≡ None }
+        ensures writers { (w : ℕ) → w < 64 → named self.new.writers w ≡ None }
+        ensures endpoints { (e : ℕ) → e < 64 → named self.new.endpoints e ≡ None }
+    {
+        self.close_clients();
+        self.close_readers();
+        self.close_writers();
+        self.close_endpoints();
     }
 
     /// Closes the futures by number.
@@ -99,9 +131,11 @@ impl Session {
         }
     }
 
-    /// Closes what is open, readers, then writers, then endpoints, then futures, then interfaces and then devices, each by number; and gives the host,
-    /// at which all tickets are discarded and then reaped, by number. Then the journal is lawful, each ticket has its completion and
-    /// its end, and the host keeps no open device, no claimed interface and no endpoint.
+    /// Closes what is open, clients, then readers, then writers, then endpoints, then futures, then
+    /// interfaces and then devices, each by number; and gives the host, at which all tickets are
+    /// discarded and then reaped, by number. Then the journal is lawful, each ticket has its
+    /// completion and its end, and the host keeps no open device, no claimed interface and no
+    /// endpoint.
     pub fn end(self) -> Host
         ensures host { (state : State) → Represents self state → result ≡ ended state }
         ensures ended { HasEnds result.tickets }
@@ -113,9 +147,7 @@ impl Session {
         ensures goes_on { Extends self.host.kernel.past result.kernel.past }
     {
         let mut session = self;
-        session.close_readers();
-        session.close_writers();
-        session.close_endpoints();
+        session.close_streams();
         session.close_futures();
         session.close_interfaces();
         session.close_devices();
@@ -126,6 +158,7 @@ impl Session {
             endpoints,
             readers,
             writers,
+            clients,
             futures,
             tree: _tree,
             watch: _watch,
@@ -134,6 +167,7 @@ impl Session {
         drop_names(endpoints);
         drop_names(readers);
         drop_names(writers);
+        drop_names(clients);
         drop_names(interfaces);
         drop_names(devices);
         host.finish();

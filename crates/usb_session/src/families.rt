@@ -9,14 +9,16 @@ ghost use Rattle.usb_session_calls.specs.Steps.{along_steps};
 ghost use Rattle.usb_session_calls.specs.EndpointCalls.{on_endpoint};
 ghost use Rattle.usb_session_calls.specs.CalledReaders.{on_reader};
 ghost use Rattle.usb_session_calls.specs.CalledWriters.{on_writer};
+ghost use Rattle.usb_session_calls.specs.CalledClients.{on_client};
 ghost use Rattle.usb_session_calls.specs.Controls.{on_control};
 
 use crate::session::Session;
 use usb_desc::NoMemory;
 use usb_script_lines::{Name, Steps};
 use usb_session_calls::{
-    ControlCall, DeviceCall, EndpointCall, InterfaceCall, ReaderCall, WriterCall, call_control,
-    call_device, call_endpoint, call_interface, call_reader, call_writer, open_at, put_at, take_at,
+    ClientCall, ControlCall, DeviceCall, EndpointCall, InterfaceCall, ReaderCall, WriterCall,
+    call_client, call_control, call_device, call_endpoint, call_interface, call_reader,
+    call_writer, open_at, put_at, take_at,
 };
 use usb_session_text::write_condition;
 
@@ -134,6 +136,32 @@ impl Session {
         };
         let called = call_writer(&mut writer, &mut self.host, line, call);
         put_at(&mut self.writers, number, writer);
+        self.host.rest();
+        called
+    }
+
+    /// A call on the client of this name. The steps are applied while it waits, and those that are left right after it.
+    pub(crate) fn on_client(
+        &mut self,
+        line: &mut String,
+        name: Name,
+        call: ClientCall,
+        steps: Steps,
+    ) -> Result<(), NoMemory>
+        requires room { length steps ≤ self.old.host.kernel.spare }
+        ensures answered { Answers self.old self.new line.old line.new result
+            (λ state. along_steps state steps (λ s. on_client s name call)) }
+        ensures spare { self.new.host.kernel.spare + length steps ≡ self.old.host.kernel.spare }
+        ensures later { Extends self.old.host.kernel.past self.new.host.kernel.past }
+    {
+        let number = name.number();
+        self.host.lend_steps(steps.into_vec());
+        let Some(mut client) = take_at(&mut self.clients, number) else {
+            self.host.rest();
+            return write_condition(line);
+        };
+        let called = call_client(&mut client, &mut self.host, line, call);
+        put_at(&mut self.clients, number, client);
         self.host.rest();
         called
     }

@@ -6,6 +6,7 @@ ghost use Rattle.usb_session.specs.Behind.{ScriptsGoOn};
 ghost use Rattle.usb_session.specs.Framed.{FramedScriptsFollow};
 ghost use Rattle.usb_session.specs.Handed.{ScriptsHandOver};
 ghost use Rattle.usb_session.specs.WrittenScripts.{ScriptsAreWritten};
+ghost use Rattle.usb_session.specs.ClientsServed.{ScriptsServeClients};
 ghost use Rattle.usb_session.specs.Served.{EndpointsAreServedInOrder, ScriptsAreCounted};
 ghost use Rattle.usb_session.specs.Printed.{ScriptsPrintCompletions};
 ghost use Rattle.usb_session.specs.ControlsServed.{ScriptsServeControls};
@@ -71,4 +72,12 @@ pub fn readers_hand_over()
 /// transfer that a call took is that call's error.
 pub fn writers_tell()
     ensures written { ScriptsAreWritten }
+{}
+
+/// Before the first line of a script and behind each, the tickets of a client's writer carry the
+/// frames of its requests, in order, and its responses are the first messages that came to its
+/// reader, each behind the tag of its request. So where the device answers each request with f of
+/// it, under the request's tag, the responses are f of the requests, in order.
+pub fn clients_are_served()
+    ensures clients { ScriptsServeClients }
 {}

@@ -5,6 +5,7 @@
 mod answer;
 mod awaiting;
 mod claiming;
+mod client_names;
 mod cloning;
 mod closing;
 mod ending;
@@ -25,9 +26,9 @@ mod writer_names;
 
 pub use fates::{tickets, write_fate};
 pub use laws::{
-    controls_are_served, endpoints_are_served_in_order, fates_are_final, framed_readers_follow,
-    lines_print_what_they_took, polls_answer_for_their_place, readers_hand_over, scripts_go_on,
-    writers_tell,
+    clients_are_served, controls_are_served, endpoints_are_served_in_order, fates_are_final,
+    framed_readers_follow, lines_print_what_they_took, polls_answer_for_their_place,
+    readers_hand_over, scripts_go_on, writers_tell,
 };
 pub use session::Session;
 pub use summary::Summary;

@@ -84,6 +84,7 @@ impl Session {
         ensures stands { (state : State) → Represents self.old state →
             Represents self.new (reader_closed state name) }
         ensures freed { self.new.readers ≡ freed self.old.readers name }
+        ensures clients { self.new.clients ≡ self.old.clients }
         ensures spare { self.new.host.kernel.spare ≡ self.old.host.kernel.spare }
     {
         let Some(reader) = take_at(&mut self.readers, name.number()) else {

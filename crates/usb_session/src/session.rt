@@ -18,13 +18,15 @@ use usb_device_endpoint::Endpoint;
 use usb_enum::{AttrTree, HotplugWatch, watch_devices};
 use usb_io::{EndpointRead, EndpointWrite};
 use usb_kernel::{Bytes, Descriptors, Kernel, SimDevice};
+use usb_msg::MsgClient;
 use usb_script_lines::Item;
 use usb_session_calls::{drop_names, no_names};
 use usb_session_tree::{packets_of, tree_of};
 use usb_xfer::Any;
 
-/// A host, what is open under each name (devices, claimed interfaces, endpoints, readers,
-/// writers and control transfers on their way), the tree of attributes, and the packets of udev that are left.
+/// A host, what is open under each name (devices, claimed interfaces, endpoints, readers, writers,
+/// clients of messages and control transfers on their way), the tree of attributes, and the packets
+/// of udev that are left.
 ///
 /// It can't be dropped: `end` has to spend it.
 pub struct Session {
@@ -34,6 +36,7 @@ pub struct Session {
     pub(crate) endpoints: Vec<Option<Endpoint<Any, Any>>>,
     pub(crate) readers: Vec<Option<EndpointRead<Any>>>,
     pub(crate) writers: Vec<Option<EndpointWrite<Any>>>,
+    pub(crate) clients: Vec<Option<MsgClient<Any, Any>>>,
     pub(crate) futures: Vec<Option<TransferFuture>>,
     pub(crate) tree: AttrTree,
     pub(crate) watch: HotplugWatch,
@@ -52,6 +55,7 @@ impl Model for Session {
       endpoints = s.endpoints.items;
       readers = s.readers.items;
       writers = s.writers.items;
+      clients = s.clients.items;
       futures = s.futures.items;
       tree = s.tree;
       packets = s.watch;
@@ -153,7 +157,15 @@ struct Names {
     endpoints: Vec<Option<Endpoint<Any, Any>>>,
     readers: Vec<Option<EndpointRead<Any>>>,
     writers: Vec<Option<EndpointWrite<Any>>>,
+    clients: Vec<Option<MsgClient<Any, Any>>>,
     futures: Vec<Option<TransferFuture>>,
+}
+
+/// What is open under the names of readers, of writers and of clients.
+struct StreamNames {
+    readers: Vec<Option<EndpointRead<Any>>>,
+    writers: Vec<Option<EndpointWrite<Any>>>,
+    clients: Vec<Option<MsgClient<Any, Any>>>,
 }
 
 /// Names of two kinds under which nothing is open.
@@ -171,6 +183,27 @@ fn two_names<A, B>(alloc: Global) -> Result<(Vec<Option<A>>, Vec<Option<B>>), No
     }
 }
 
+/// Names of readers, writers and clients under which nothing is open.
+fn stream_names(alloc: Global) -> Result<StreamNames, NoMemory>
+    ensures readers { IfOk result (λ n. n.readers.items ≡ replicate 64 None) }
+    ensures writers { IfOk result (λ n. n.writers.items ≡ replicate 64 None) }
+    ensures clients { IfOk result (λ n. n.clients.items ≡ replicate 64 None) }
+{
+    let (readers, writers) = two_names(alloc)?;
+    match no_names(alloc) {
+        Ok(clients) => Ok(StreamNames {
+            readers,
+            writers,
+            clients,
+        }),
+        Err(error) => {
+            drop_names(readers);
+            drop_names(writers);
+            Err(error)
+        }
+    }
+}
+
 /// Names of each kind under which nothing is open.
 fn all_names(alloc: Global) -> Result<Names, NoMemory>
     ensures devices { IfOk result (λ n. n.devices.items ≡ replicate 64 None) }
@@ -178,10 +211,11 @@ fn all_names(alloc: Global) -> Result<Names, NoMemory>
     ensures endpoints { IfOk result (λ n. n.endpoints.items ≡ replicate 64 None) }
     ensures readers { IfOk result (λ n. n.readers.items ≡ replicate 64 None) }
     ensures writers { IfOk result (λ n. n.writers.items ≡ replicate 64 None) }
+    ensures clients { IfOk result (λ n. n.clients.items ≡ replicate 64 None) }
     ensures futures { IfOk result (λ n. n.futures.items ≡ replicate 64 None) }
 {
     let (devices, interfaces) = two_names(alloc)?;
-    let (endpoints, readers) = match two_names(alloc) {
+    let (endpoints, futures) = match two_names(alloc) {
         Ok(names) => names,
         Err(error) => {
             drop_names(devices);
@@ -189,24 +223,58 @@ fn all_names(alloc: Global) -> Result<Names, NoMemory>
             return Err(error);
         }
     };
-    let (writers, futures) = match two_names(alloc) {
-        Ok(names) => names,
+    match stream_names(alloc) {
+        Ok(
+            StreamNames {
+                readers,
+                writers,
+                clients,
+            },
+        ) => Ok(Names {
+            devices,
+            interfaces,
+            endpoints,
+            readers,
+            writers,
+            clients,
+            futures,
+        }),
         Err(error) => {
             drop_names(devices);
             drop_names(interfaces);
             drop_names(endpoints);
-            drop_names(readers);
-            return Err(error);
+            drop_names(futures);
+            Err(error)
         }
-    };
-    Ok(Names {
+    }
+}
+
+/// Drops names under which nothing is open, of each kind.
+fn drop_all(names: Names)
+    requires devices { names.devices.items ≡ replicate 64 None }
+    requires interfaces { names.interfaces.items ≡ replicate 64 None }
+    requires endpoints { names.endpoints.items ≡ replicate 64 None }
+    requires readers { names.readers.items ≡ replicate 64 None }
+    requires writers { names.writers.items ≡ replicate 64 None }
+    requires clients { names.clients.items ≡ replicate 64 None }
+    requires futures { names.futures.items ≡ replicate 64 None }
+{
+    let Names {
         devices,
         interfaces,
         endpoints,
         readers,
         writers,
+        clients,
         futures,
-    })
+    } = names;
+    drop_names(devices);
+    drop_names(interfaces);
+    drop_names(endpoints);
+    drop_names(readers);
+    drop_names(writers);
+    drop_names(clients);
+    drop_names(futures);
 }
 
 /// A host as `host_with` makes it, and names of each kind under which nothing is open.
@@ -218,26 +286,14 @@ fn host_and_names(alloc: Global, items: &[Item], places: usize) -> Result<(Host,
     ensures endpoints { IfOk result (λ h. h.1.endpoints.items ≡ replicate 64 None) }
     ensures readers { IfOk result (λ h. h.1.readers.items ≡ replicate 64 None) }
     ensures writers { IfOk result (λ h. h.1.writers.items ≡ replicate 64 None) }
+    ensures clients { IfOk result (λ h. h.1.clients.items ≡ replicate 64 None) }
     ensures futures { IfOk result (λ h. h.1.futures.items ≡ replicate 64 None) }
 {
     let names = all_names(alloc)?;
     match host_with(alloc, items, places) {
         Ok(host) => Ok((host, names)),
         Err(error) => {
-            let Names {
-                devices,
-                interfaces,
-                endpoints,
-                readers,
-                writers,
-                futures,
-            } = names;
-            drop_names(devices);
-            drop_names(interfaces);
-            drop_names(endpoints);
-            drop_names(readers);
-            drop_names(writers);
-            drop_names(futures);
+            drop_all(names);
             Err(error)
         }
     }
@@ -257,10 +313,10 @@ fn tree_and_watch(alloc: Global, items: &[Item]) -> Result<(AttrTree, HotplugWat
 fn session_of(host: Host, names: Names, tree: AttrTree, watch: HotplugWatch) -> Session
     requires sound { IsSound (session_made tree watch host names.devices.items
         names.interfaces.items names.endpoints.items names.readers.items names.writers.items
-        names.futures.items) }
+        names.clients.items names.futures.items) }
     ensures parts { result ≡ session_made tree watch host names.devices.items
         names.interfaces.items names.endpoints.items names.readers.items names.writers.items
-        names.futures.items }
+        names.clients.items names.futures.items }
 {
     let Names {
         devices,
@@ -268,6 +324,7 @@ fn session_of(host: Host, names: Names, tree: AttrTree, watch: HotplugWatch) -> 
         endpoints,
         readers,
         writers,
+        clients,
         futures,
     } = names;
     Session {
@@ -277,6 +334,7 @@ fn session_of(host: Host, names: Names, tree: AttrTree, watch: HotplugWatch) -> 
         endpoints,
         readers,
         writers,
+        clients,
         futures,
         tree,
         watch,

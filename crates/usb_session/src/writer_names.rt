@@ -85,6 +85,7 @@ impl Session {
             Represents self.new (writer_closed state name) }
         ensures freed { self.new.writers ≡ freed self.old.writers name }
         ensures readers { self.new.readers ≡ self.old.readers }
+        ensures clients { self.new.clients ≡ self.old.clients }
         ensures spare { self.new.host.kernel.spare ≡ self.old.host.kernel.spare }
     {
         let Some(writer) = take_at(&mut self.writers, name.number()) else {

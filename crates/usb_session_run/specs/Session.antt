@@ -18,6 +18,7 @@ use Rattle.usb_session.specs.Places.{PollsAnswer}
 use Rattle.usb_session.specs.Framed.{FramedReadersFollow}
 use Rattle.usb_session.specs.Handed.{BytesAreHandedOver}
 use Rattle.usb_session.specs.WrittenScripts.{WritersAreTold}
+use Rattle.usb_session.specs.ClientsServed.{ClientsAreServed}
 use Rattle.usb_session_run.specs.Exchanges.{MessagesAlwaysArrive, MessagesKeepArriving}
 use Rattle.usb_session.specs.declared.summary.Summary.{Summary}
 
@@ -49,8 +50,9 @@ pub record ReadAs (old new : Streams) (items : Result (List Item) SessionError) 
 -- of the oldest pending transfer, and `pending` exactly where it has none; and at every moment what
 -- a framed reader consumed is a prefix of its stream, what any reader handed over and has unread are
 -- the bytes of the tickets that it took, the tickets of a writer's endpoint carry what the writer
--- wrote, and where a device only echoes from the one to the other, the messages that the reader
--- ended are the first of those that the writer ended, also once the writer is gone
+-- wrote, where a device only echoes from the one to the other, the messages that the reader ended
+-- are the first of those that the writer ended, also once the writer is gone, and the requests of a
+-- client are sent in order as frames, of which each response that it answered is the device's answer
 pub record IsAnswered (old new : Streams) (summary : Summary) : Type 0 where
   pub items : List Item
   pub script : ReadAs old new (Ok items)
@@ -70,6 +72,7 @@ pub record IsAnswered (old new : Streams) (summary : Summary) : Type 0 where
   pub told : WritersAreTold items
   pub exchanged : MessagesAlwaysArrive items
   pub keeps_arriving : MessagesKeepArriving items
+  pub clients : ClientsAreServed items
 
 -- a valid script was read, and a prefix of its output was written
 pub record IsCutOff (old new : Streams) : Type 0 where

@@ -21,6 +21,7 @@ ghost use Rattle.usb_session.specs.Places.{PollsAnswer};
 ghost use Rattle.usb_session.specs.Framed.{FramedReadersFollow};
 ghost use Rattle.usb_session.specs.Handed.{BytesAreHandedOver};
 ghost use Rattle.usb_session.specs.WrittenScripts.{WritersAreTold};
+ghost use Rattle.usb_session.specs.ClientsServed.{ClientsAreServed};
 ghost use Rattle.usb_session_calls.specs.Relation.{Represents};
 ghost use Rattle.usb_session_run.specs.Exchanges.{MessagesAlwaysArrive, MessagesKeepArriving};
 ghost use Rattle.usb_session_run.specs.Running.{AllAnswered};
@@ -175,6 +176,7 @@ fn answer_items<K: Sink>(alloc: Global, items: Vec<Item>, places: usize, sink: &
     ensures told { IfOk result.result (λ _. WritersAreTold items.items) }
     ensures exchanged { IfOk result.result (λ _. MessagesAlwaysArrive items.items) }
     ensures keeps_arriving { IfOk result.result (λ _. MessagesKeepArriving items.items) }
+    ensures clients { IfOk result.result (λ _. ClientsAreServed items.items) }
     ensures err { OnErr result.result
         (WrotePrefix (K.written sink.old) (K.written sink.new) (output items.items)) }
     ensures cause { IsErrOf result.result SessionError.WriteFault →
@@ -245,6 +247,7 @@ pub fn run_script<K: Sink>(alloc: Global, script: Script, sink: &mut K) -> Ran
     ensures told { IfOk result.result (λ _. WritersAreTold script) }
     ensures exchanged { IfOk result.result (λ _. MessagesAlwaysArrive script) }
     ensures keeps_arriving { IfOk result.result (λ _. MessagesKeepArriving script) }
+    ensures clients { IfOk result.result (λ _. ClientsAreServed script) }
     ensures err { OnErr result.result
         (WrotePrefix (K.written sink.old) (K.written sink.new) (output script)) }
     ensures cause { IsErrOf result.result SessionError.WriteFault →

@@ -11,6 +11,7 @@ use Rattle.usb_session.proofs.HandleLemmas.{served-handles, final-counted, fates
 use Rattle.usb_session.proofs.PlaceLemmas.{polls-of_scripts}
 use Rattle.usb_session.proofs.PrintedLaw.{scripts-print}
 use Rattle.usb_session.proofs.ControlsLaw.{scripts-serve_controls}
+use Rattle.usb_session.proofs.ClientsLaw.{served-clients}
 use Rattle.usb_session.proofs.FramedScripts.{framed-scripts}
 use Rattle.usb_session.proofs.HandedScripts.{handed-scripts}
 use Rattle.usb_session.proofs.WrittenLaw.{written-scripts}
@@ -117,6 +118,12 @@ returns-in-Ok-answer_each-clause-keeps_arriving g c =
     let final = host-final c.answer_each.new.session c.end-host.result c.args.items.items c.in-Ok-answer_each.ensures.ok c.end-host.ensures.host in
     let lawful = subst (λ (h : HostState). IsLawful h.kernel.past) (final) c.end-host.ensures.lawful in
     always-ok c.write_summary-result.result (messages-keep-arriving c.args.items.items lawful)
+
+pub returns-in-Ok-answer_each-clause-clients : goal.returns-in-Ok-answer_each-clause-clients
+returns-in-Ok-answer_each-clause-clients g c =
+    let final = host-final c.answer_each.new.session c.end-host.result c.args.items.items c.in-Ok-answer_each.ensures.ok c.end-host.ensures.host in
+    let lawful = subst (λ (h : HostState). IsLawful h.kernel.past) (final) c.end-host.ensures.lawful in
+    always-ok c.write_summary-result.result (served-clients c.args.items.items lawful)
 
 pub returns-in-Ok-answer_each-clause-kernel : goal.returns-in-Ok-answer_each-clause-kernel
 returns-in-Ok-answer_each-clause-kernel g c =

@@ -11,3 +11,6 @@ returns-clause-exchanged g c = rw c.into_items.ensures.value at c.answer_items.e
 
 pub returns-clause-keeps_arriving : goal.returns-clause-keeps_arriving
 returns-clause-keeps_arriving g c = rw c.into_items.ensures.value at c.answer_items.ensures.keeps_arriving
+
+pub returns-clause-clients : goal.returns-clause-clients
+returns-clause-clients g c = rw c.into_items.ensures.value at c.answer_items.ensures.clients

@@ -13,6 +13,7 @@ loop-name-preserved c = record {
   none = none-more c.loop-name.self.endpoints c.close_endpoint.new.self.endpoints c.loop-name.name c.close_endpoint.ensures.freed c.loop-name.invariant.none;
   readers = c.close_endpoint.ensures.readers ∙ c.loop-name.invariant.readers;
   writers = c.close_endpoint.ensures.writers ∙ c.loop-name.invariant.writers;
+  clients = c.close_endpoint.ensures.clients ∙ c.loop-name.invariant.clients;
 }
 
 pub returns-clause-stands : goal.returns-clause-stands

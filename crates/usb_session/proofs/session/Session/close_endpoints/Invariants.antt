@@ -11,4 +11,5 @@ invariant-loop-name l = record {
   none : (n : ℕ) → n < l.name → named l.self.endpoints n ≡ None;
   readers : l.self.readers ≡ l.initial.self.readers;
   writers : l.self.writers ≡ l.initial.self.writers;
+  clients : l.self.clients ≡ l.initial.self.clients;
 }

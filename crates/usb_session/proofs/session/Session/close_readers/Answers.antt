@@ -17,6 +17,7 @@ loop-number-preserved c =
           λ state r. subst (Represents after) (ap (reader_closed (readers_closed state number)) same ∙ sym (below-more reader_closed state number))
           (c.close_reader_at.ensures.stands (readers_closed state number) (c.loop-number.invariant.stands state r));
       none = none-more before.readers after.readers number (c.close_reader_at.ensures.freed ∙ ap (freed before.readers) same) c.loop-number.invariant.none;
+      clients = c.close_reader_at.ensures.clients ∙ c.loop-number.invariant.clients;
     }
 
 pub unreachable-requires : goal.unreachable-requires

@@ -9,4 +9,5 @@ abbrev pub invariant-loop-number : goal.invariant-loop-number
 invariant-loop-number l = record {
   stands : (state : State) → Represents l.initial.self state → Represents l.self (readers_closed state l.number);
   none : (n : ℕ) → n < l.number → named l.self.readers n ≡ None;
+  clients : l.self.clients ≡ l.initial.self.clients;
 }

@@ -18,6 +18,7 @@ loop-number-preserved c =
           (c.close_writer_at.ensures.stands (writers_closed state number) (c.loop-number.invariant.stands state r));
       none = none-more before.writers after.writers number (c.close_writer_at.ensures.freed ∙ ap (freed before.writers) same) c.loop-number.invariant.none;
       readers = c.close_writer_at.ensures.readers ∙ c.loop-number.invariant.readers;
+      clients = c.close_writer_at.ensures.clients ∙ c.loop-number.invariant.clients;
     }
 
 pub unreachable-requires : goal.unreachable-requires

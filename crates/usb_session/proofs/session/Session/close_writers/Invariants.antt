@@ -10,4 +10,5 @@ invariant-loop-number l = record {
   stands : (state : State) → Represents l.initial.self state → Represents l.self (writers_closed state l.number);
   none : (n : ℕ) → n < l.number → named l.self.writers n ≡ None;
   readers : l.self.readers ≡ l.initial.self.readers;
+  clients : l.self.clients ≡ l.initial.self.clients;
 }

@@ -53,7 +53,7 @@ invariant_of-self-2 c =
     let n = c.number-number.result in
     let x = c.in-Some.endpoint in
     let y = c.call_endpoint-called.new.endpoint in
-    sound-lent s _ _ _ _ c.put_at.new.names.items s.readers s.writers (Own n) x y c.self.invariant c.lend_steps.ensures.steps (back c).was
+    sound-lent s _ _ _ _ c.put_at.new.names.items s.readers s.writers s.clients (Own n) x y c.self.invariant c.lend_steps.ensures.steps (back c).was
     (own-replaces s n c.put_at.new.names.items (Some y) (back-changes _ _ n x y (back c))) c.call_endpoint-called.ensures.keeps c.rest-2.ensures.rest
 
 pub returns-clause-answered : goal.returns-clause-answered

@@ -54,7 +54,7 @@ invariant_of-self-2 c =
     let n = c.number-number.result in
     let x = c.in-Some.reader in
     let y = c.call_reader-called.new.reader in
-    sound-lent s _ _ _ _ s.endpoints c.put_at.new.names.items s.writers (OfReader n) x.endpoint y.endpoint c.self.invariant c.lend_steps.ensures.steps (ap (option_map reader_endpoint) (back c).was)
+    sound-lent s _ _ _ _ s.endpoints c.put_at.new.names.items s.writers s.clients (OfReader n) x.endpoint y.endpoint c.self.invariant c.lend_steps.ensures.steps (ap (option_map reader_endpoint) (back c).was)
     (reader-replaces s n c.put_at.new.names.items (Some y) (back-changes _ _ n x y (back c))) c.call_reader-called.ensures.keeps c.rest-2.ensures.rest
 
 pub returns-clause-answered : goal.returns-clause-answered

@@ -54,7 +54,7 @@ invariant_of-self-2 c =
     let n = c.number-number.result in
     let x = c.in-Some.writer in
     let y = c.call_writer-called.new.writer in
-    sound-lent s _ _ _ _ s.endpoints s.readers c.put_at.new.names.items (OfWriter n) x.endpoint y.endpoint c.self.invariant c.lend_steps.ensures.steps (ap (option_map writer_endpoint) (back c).was)
+    sound-lent s _ _ _ _ s.endpoints s.readers c.put_at.new.names.items s.clients (OfWriter n) x.endpoint y.endpoint c.self.invariant c.lend_steps.ensures.steps (ap (option_map writer_endpoint) (back c).was)
     (writer-replaces s n c.put_at.new.names.items (Some y) (back-changes _ _ n x y (back c))) c.call_writer-called.ensures.keeps c.rest-2.ensures.rest
 
 pub returns-clause-answered : goal.returns-clause-answered

@@ -1,8 +1,7 @@
-use Rattle.std.proofs.Common.{refl, sym, ◌∙◌, ap, subst}
+use Rattle.std.proofs.Common.{arith, inl, refl, sym, ◌∙◌, ap, subst}
 use Rattle.usb_device_endpoint.specs.EndpointState.{EndpointState}
 use Rattle.usb_io.specs.Readers.{ReaderState, fresh_reader}
 use Rattle.usb_session_text.specs.Calls.{condition_line}
-use Rattle.usb_session_calls.specs.EndpointNames.{Own}
 use Rattle.usb_session_calls.specs.Names.{set_name}
 use Rattle.usb_session_calls.specs.Readers.{reader_answer}
 use Rattle.usb_session_calls.specs.SessionState.{IsSound}
@@ -10,7 +9,7 @@ use Rattle.usb_session_calls.proofs.NameLemmas.{free_at}
 use Rattle.usb_session_calls.proofs.Answering.{Gives, answers, answers-same}
 use Rattle.usb_session.specs.SessionFacts.{made_of}
 use Rattle.usb_session.proofs.TakenOut.{free_again, same-none}
-use Rattle.usb_session.proofs.Moves.{rounded-small, put_same}
+use Rattle.usb_session.proofs.Moves.{put_same}
 use Rattle.usb_session.proofs.ReaderMoves.{made-sound, reader-gives, reader-used, reader-none, reader-out}
 use Rattle.usb_kernel.proofs.Extends.{extends-same}
 use Rattle.usb_session.proofs.Later.{later-same}
@@ -36,12 +35,7 @@ returns-in_default-clause-answered c =
 
 -- the size fits
 pub new-made-requires : goal.new-made-requires
-new-made-requires c = record {
-  small =
-      rw c.in-Ok.ensures.same
-      (rounded-small c.in-Some.endpoint.maximum c.bytes.result
-      (c.self.invariant.endpoints_small (Own c.number-number.result) c.in-Some.endpoint (sym c.take_at.ensures.taken ∙ c.in-Some.is)) c.bytes.ensures.small);
-}
+new-made-requires c = record { fits = inl (omega (arith, c.bytes.ensures.small)) }
 
 -- the reader stands under its name
 pub put_at-requires : goal.put_at-requires

@@ -6,7 +6,7 @@ use Rattle.usb_session.specs.SessionFacts.{made_of}
 use Rattle.usb_session_calls.specs.TargetCalls.{number_of_target}
 use Rattle.usb_session_calls.proofs.Answering.{answers, answers-same}
 use Rattle.usb_session_calls.proofs.ControlCode.{number-shown}
-use Rattle.usb_session.proofs.FutureCalls.{start-sound, start-spare, start-gives, start-none, start-used, start-bars}
+use Rattle.usb_session.proofs.FutureCalls.{start-sound, none-sound, start-spare, start-gives, start-none, start-used, start-bars}
 use Rattle.usb_session_calls.proofs.NameLemmas.{free_at}
 use Rattle.usb_kernel.proofs.Extends.{extends-same}
 use Rattle.usb_session.proofs.Later.{later-past}
@@ -30,6 +30,11 @@ returns-in_default-clause-answered c =
     (λ state r. start-none (made_of c.self.inside) state c.start_in_open.new.host c.args.name (request_for c.args.setup c.args.wanted) c.args.timeout c.args.target
     (number_of_target c.self.inside.host c.deref-2.result.now c.deref-3.result.now c.args.target) r (number-shown c.self.inside.host _ _ _ _ c.args.target c.deref-2.ensures.value c.deref-3.ensures.value)
     (sym c.in_default.is ∙ c.in_ok-future.ensures.future) c.in_ok-future.ensures.ok)
+
+pub invariant_of-self-in_default : goal.invariant_of-self-in_default
+invariant_of-self-in_default c =
+    none-sound (made_of c.self.inside) c.start_in_open.new.host (request_for c.args.setup c.args.wanted) c.args.timeout
+    (number_of_target c.self.inside.host c.deref-2.result.now c.deref-3.result.now c.args.target) c.self.invariant (sym c.in_default.is ∙ c.in_ok-future.ensures.future) c.in_ok-future.ensures.ok
 
 pub invariant_of-self-2 : goal.invariant_of-self-2
 invariant_of-self-2 c =
