@@ -1,5 +1,6 @@
 //! Whole scripts: what the program writes, its status and its line on standard error.
 
+mod clients;
 mod controls;
 mod crowded;
 mod deadlines;

@@ -24,7 +24,7 @@ const GIVEN_UP: (&str, &str) = (
 );
 
 /// Appends a text so often.
-fn push_times(text: &mut String, part: &str, count: u32) -> Result<(), AllocError> {
+pub(super) fn push_times(text: &mut String, part: &str, count: u32) -> Result<(), AllocError> {
     for _ in 0..count {
         text.push_str(part)?;
     }
@@ -53,7 +53,12 @@ fn crowded(alloc: Global) -> Result<String, AllocError> {
 }
 
 /// Appends the fate lines of these tickets, which go on alike behind their numbers.
-fn push_fates(text: &mut String, first: u32, behind: u32, fate: &str) -> Result<(), AllocError> {
+pub(super) fn push_fates(
+    text: &mut String,
+    first: u32,
+    behind: u32,
+    fate: &str,
+) -> Result<(), AllocError> {
     let alloc = *text.allocator();
     for ticket in first..behind {
         let line = format!(in alloc; "ticket {ticket} {fate}\n")?;
