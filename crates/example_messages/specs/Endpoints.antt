@@ -1,5 +1,5 @@
 -- The two endpoints of a device that answers messages.
-use Rattle.std.specs.Prelude.{◌≡◌, ◌≢◌, ◌<◌, false, [], None, unwrap_or}
+use Rattle.std.specs.Prelude.{◌≡◌, ◌≢◌, false, [], None, unwrap_or}
 use Rattle.usb_device_endpoint.specs.BusState.{BusState}
 use Rattle.usb_device_endpoint.specs.EndpointState.{EndpointState}
 use Rattle.usb_device_endpoint.specs.Handles.{Stands}
@@ -13,10 +13,6 @@ use Rattle.example_messages.specs.declared.messages.TheConstants.{TRANSFER_SIZE,
 pub record MessagesState : Type 0 where
   pub reader : ReaderState
   pub writer : WriterState
-
--- a packet has at most 2047 bytes, since its size is in 11 bits of the descriptor
-abbrev pub IsSmall : EndpointState → Type 0
-IsSmall e = e.maximum < 2048
 
 -- those over two endpoints, to begin with
 abbrev pub fresh_messages : EndpointState → EndpointState → MessagesState
@@ -40,13 +36,11 @@ pub record IsSettled (m : MessagesState) : Type 0 where
   pub unsent : unwrap_or m.writer.buffer [] ≡ []
 
 -- the endpoint that is read and the one that is written to stand at a bus, each with a key of its
--- own, and their packets are small
+-- own
 pub record BothStand (b : BusState) (source target : EndpointState) : Type 0 where
   pub input : Stands b source
   pub output : Stands b target
   pub apart : source.key ≢ target.key
-  pub small_input : IsSmall source
-  pub small_output : IsSmall target
 
 abbrev pub IsOpen : BusState → MessagesState → Type 0
 IsOpen b m = BothStand b m.reader.endpoint m.writer.endpoint

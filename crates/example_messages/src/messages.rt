@@ -5,7 +5,7 @@ ghost use Rattle.usb_device_endpoint.specs.Handles.{Stands, KeepsOthers};
 ghost use Rattle.usb_device_host.specs.HostBus.{bus_of};
 ghost use Rattle.usb_device_host.specs.HandleStates.{StandsInterface};
 ghost use Rattle.example_messages.specs.Restarts.{ClearsHalt, BothCleared, OneRefused};
-ghost use Rattle.example_messages.specs.Endpoints.{fresh_messages, IsFresh, IsSettled, IsOpen, BothStand, IsClosed, BothClosed, IsSame, KeepsEndpoints, OthersStand, StandBeside, IsSmall};
+ghost use Rattle.example_messages.specs.Endpoints.{fresh_messages, IsFresh, IsSettled, IsOpen, BothStand, IsClosed, BothClosed, IsSame, KeepsEndpoints, OthersStand, StandBeside};
 
 use std::marker::Model;
 use usb_device::{
@@ -33,7 +33,7 @@ const TIMEOUT: u64 = 10_000_000_000;
 ///
 /// ```
 /// let mut messages = Messages::open(host, 1, 6)?;
-/// let answer = messages.ask(host, &[1, 2, 3]);
+/// let answer = messages.ask(host, request);
 /// messages.close(host);
 /// ```
 pub struct Messages {
@@ -81,7 +81,6 @@ impl Messages {
         requires interface { StandsInterface host.old interface }
         requires input { Stands (bus_of host.old) input }
         requires none { input.pending ≡ [] }
-        requires small { IsSmall input }
         ensures fresh { IfOk result IsFresh }
         ensures settled { IfOk result IsSettled }
         ensures stands { IfOk result (IsOpen (bus_of host.new)) }
@@ -97,8 +96,6 @@ impl Messages {
 
     /// A reader and a writer over these endpoints.
     fn over(input: Endpoint<Bulk, In>, output: Endpoint<Bulk, Out>) -> Messages
-        requires input { IsSmall input }
-        requires output { IsSmall output }
         ensures fresh { result ≡ fresh_messages input output }
     {
         Messages {

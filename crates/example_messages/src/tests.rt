@@ -65,7 +65,8 @@ fn answers(host: &mut Host, turns: &[Turn]) -> Result<bool, Fail<Error>> {
     let mut messages = Messages::open(host, 1, 6)?;
     let mut all = true;
     for turn in turns {
-        let answer = messages.ask(host, turn.request);
+        let request = turn.request;
+        let answer = messages.ask(host, request);
         all &= is_answer(&answer, &turn.answer);
         if answer.is_err() {
             messages = match messages.restart(host) {

@@ -1,12 +1,10 @@
 -- The request is sent, and then its answer is received.
-use Rattle.std.proofs.Common.{ap, sym, subst}
+use Rattle.std.proofs.Common.{sym, subst}
 use Rattle.std.proofs.lemmas.Result.{IfOk-weaker, IfErr-weaker}
-use Rattle.usb_device_endpoint.specs.EndpointState.{EndpointState}
 use Rattle.usb_device_host.specs.HostBus.{bus_of}
 use Rattle.usb_io.specs.Readers.{ReaderState}
 use Rattle.usb_io.specs.Writers.{WriterState}
 use Rattle.example_messages.specs.Asking.{WritesMessage, ReadsMessage}
-use Rattle.example_messages.proofs.EndpointLemmas.{read-open, written-open, others-once, others-other, others-then}
 use Rattle.example_messages.proofs.AskLemmas.{writes-later, answer-later, fails-receiving, on-ok}
 use Rattle.example_messages.proofs.messages.Messages.ask.Goals as goal
 
@@ -31,22 +29,3 @@ returns-clause-failed c =
     (λ e failed. fails-receiving c.args.host.now c.send.new.host c.receive.new.host c.args.self.now c.receive.new.self c.send.new.self.reader e
     c.send.ensures.along.goes_on.past c.send.ensures.reader failed)
     c.receive.ensures.failed
-
-pub returns-clause-stands : goal.returns-clause-stands
-returns-clause-stands c =
-    read-open (bus_of c.send.new.host) (bus_of c.receive.new.host) c.send.new.self.reader c.receive.new.self.reader c.send.new.self.writer c.receive.new.self.writer
-    (written-open (bus_of c.args.host.now) (bus_of c.send.new.host) c.args.self.now.reader c.send.new.self.reader c.args.self.now.writer c.send.new.self.writer c.requires.stands
-    c.send.ensures.along c.send.ensures.reader)
-    c.receive.ensures.along c.receive.ensures.writer
-
-pub returns-in_err-send-clause-others : goal.returns-in_err-send-clause-others
-returns-in_err-send-clause-others c =
-    others-other (bus_of c.args.host.now) (bus_of c.send.new.host) c.args.self.now.reader.endpoint c.args.self.now.writer.endpoint c.send.ensures.along.others
-
-pub returns-clause-others : goal.returns-clause-others
-returns-clause-others c =
-    others-then (bus_of c.args.host.now) (bus_of c.send.new.host) (bus_of c.receive.new.host) c.args.self.now.reader.endpoint c.args.self.now.writer.endpoint
-    c.send.new.self.reader.endpoint c.send.new.self.writer.endpoint
-    (others-other (bus_of c.args.host.now) (bus_of c.send.new.host) c.args.self.now.reader.endpoint c.args.self.now.writer.endpoint c.send.ensures.along.others)
-    (ap (λ (r : ReaderState). r.endpoint.key) c.send.ensures.reader) (ap (λ (e : EndpointState). e.key) c.send.ensures.along.endpoint)
-    (others-once (bus_of c.send.new.host) (bus_of c.receive.new.host) c.send.new.self.reader.endpoint c.send.new.self.writer.endpoint c.receive.ensures.along.others)

@@ -7,14 +7,8 @@ use Rattle.usb_io.specs.Along.{ReadsAlong}
 use Rattle.usb_io.specs.Following.{FollowsRead}
 use Rattle.usb_io.proofs.ReaderLemmas.{along-trans}
 use Rattle.example_messages.specs.Endpoints.{MessagesState}
-use Rattle.example_messages.proofs.EndpointLemmas.{read-open}
 use Rattle.example_messages.proofs.AskLemmas.{reads-more, reads-end}
 use Rattle.example_messages.proofs.messages.Messages.receive.Goals as goal
-
-pub read-requires : goal.read-requires
-read-requires c = record {
-  stands = read-open _ _ c.args.self.now.reader c.reads.self.reader c.args.self.now.writer c.reads.self.writer c.requires.stands c.reads.invariant.along c.reads.invariant.writer;
-}
 
 pub returns-in_err-count-clause-failed : goal.returns-in_err-count-clause-failed
 returns-in_err-count-clause-failed c =
