@@ -20,7 +20,7 @@ fn tells_the_first_line_outside_the_grammar(rt: HostRuntime) -> Result<(), Alloc
     check(&rt, malformed::SCRIPTS)
 }
 
-/// What the fields of some lines come to; the limits of bytes, 65536 in a packet and 65535 in a
+/// What the fields of some lines come to; the limits of bytes, 65536 in a packet and in a request and 65535 in a
 /// control transfer; and how many items generated scripts have.
 const FIELDS: &str = "\
 fields ctlin i0 class endpoint 30 0102 0304 1541 0 = interface a230020104030506
@@ -32,6 +32,8 @@ fields endpoint e0 i0 81 int-in = Interrupt In
 fields endpoint e0 i0 02 int-out = Interrupt Out
 script ! pkt k0 81 *65536 = steps 1
 script ! pkt k0 81 *65537 = malformed line 1
+script mreq m0 *65536 = call
+script mreq m0 *65537 = malformed line 1
 script ctlout d0 vendor device 30 0000 0000 *65535 0 = call
 script ctlout d0 vendor device 30 0000 0000 *65536 0 = malformed line 1
 # numbers of messages, and of the items of the scripts that are generated for them

@@ -4,15 +4,19 @@ ghost use Rattle.std.specs.Prelude.{IfOk};
 ghost use Rattle.std.specs.List.{All};
 ghost use Rattle.usb_kernel.specs.Steps.{HasErrno};
 
+mod examples;
 mod handles;
+mod rooms;
 mod slots;
 mod transfers;
 
 use crate::devices::{DEVICE, new_kernel};
+use crate::hosts::examples::{do_as_said, has_none};
 use crate::hosts::handles::{has_texts, is_mapped, is_timed};
+use crate::hosts::rooms::has_room;
 use crate::hosts::slots::has_slots;
 use crate::hosts::transfers::{has_packet, is_cancelled_in_time, leaves_room};
-use crate::steps::packet;
+use crate::steps::{ACK, packet};
 use std::alloc::Global;
 use std::process::Abort;
 use std::test::Fail;
@@ -51,6 +55,20 @@ fn new_lines(alloc: Global, count: usize) -> Result<Vec<KernelStep>, NoMemory>
     Ok(steps)
 }
 
+/// A line of a packet that comes to endpoint 0x81, and of one that is taken at endpoint 0x02, each
+/// with a reap behind it.
+fn new_exchange(alloc: Global) -> Result<Vec<KernelStep>, NoMemory>
+    ensures errnos { IfOk result (λ steps. All HasErrno steps.items) }
+{
+    let packet = packet(alloc, &PACKET)?;
+    let reap = KernelStep::Reap { ticket: None };
+    let last = KernelStep::Reap { ticket: None };
+    match vec![in alloc; packet, reap, ACK, last] {
+        Ok(steps) => Ok(steps),
+        Err(_) => Err(NoMemory),
+    }
+}
+
 /// A host of a kernel with device 0 at address 6 of bus 1, and the steps of a line.
 fn new_host(alloc: Global, steps: Vec<KernelStep>) -> Result<Host, NoMemory>
     requires errnos { All HasErrno steps.items }
@@ -78,6 +96,10 @@ enum Case {
     Timed,
     /// Transfers are submitted and taken, one after the other and three at once.
     Slots,
+    /// Room is made for steps beside the one of the line, and given up.
+    Rooms,
+    /// The examples of doc comments are run.
+    Examples,
 }
 
 /// Compares what is found at a new host with the steps of a line. It is owned here alone.
@@ -98,6 +120,8 @@ fn is_so(alloc: Global, host: &mut Host, case: &Case) -> bool {
         Case::Mapped => is_mapped(host),
         Case::Timed => is_timed(host),
         Case::Slots => has_slots(alloc, host),
+        Case::Rooms => matches!(has_room(host), Ok(true)),
+        Case::Examples => matches!(do_as_said(host), Ok(true)),
     }
 }
 
@@ -139,4 +163,16 @@ fn a_timer_turn_cancels_what_is_due(rt: HostRuntime) -> Result<(), Fail> {
 #[test]
 fn slots_of_tickets_that_ended_are_used_again(rt: HostRuntime) -> Result<(), Fail> {
     expect(&rt, rt.alloc(), new_lines(rt.alloc(), 104)?, &Case::Slots)
+}
+
+#[test]
+fn room_for_steps_stands_beside_those_that_are_left(rt: HostRuntime) -> Result<(), Fail> {
+    expect(&rt, rt.alloc(), new_line(rt.alloc(), 0x81)?, &Case::Rooms)
+}
+
+#[test]
+fn examples_of_comments_do_what_they_say(rt: HostRuntime) -> Result<(), Fail> {
+    let is_none = has_none(rt.alloc(), Vec::new(rt.alloc()))?;
+    assert!(&rt; is_none);
+    expect(&rt, rt.alloc(), new_exchange(rt.alloc())?, &Case::Examples)
 }

@@ -2,10 +2,11 @@
 //! its own:
 //!
 //! - `kernel`: calls and steps of the crate `usb_kernel` on what is not there, and copies of steps;
+//! - `fronts`: what stands at the front of an endpoint, and the room for steps, of the same;
 //! - `endpoints`: buses, endpoints over them, and the readers and writers over endpoints, by std's
 //!   traits and until a short packet, of the crates `usb_device_endpoint` and `usb_io`;
-//! - `hosts`: a short driver, what is kept of closed handles, the slots of tickets, debug texts,
-//!   and what is made of a future, of `usb_device_host` and `usb_device`;
+//! - `hosts`: a short driver, what is kept of closed handles, the slots of tickets, the room for
+//!   steps, debug texts, and what is made of a future, of `usb_device_host` and `usb_device`;
 //! - `live`: rows of cells, on one thread and on two, of `usb_live`.
 //!
 //! What a script can ask is asked by whole scripts, of the crate `nusb_sim`: what calls at a host
@@ -20,6 +21,8 @@
 mod devices;
 #[cfg(test)]
 mod endpoints;
+#[cfg(test)]
+mod fronts;
 #[cfg(test)]
 mod hosts;
 #[cfg(test)]

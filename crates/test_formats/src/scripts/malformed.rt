@@ -332,6 +332,50 @@ pollflushend w0 : reap
 submit w0
 swrite w0 00
 Write w0 00
+# clients of messages
+msg m0 e0
+msg m64 e0 e1
+msg m0 e64 e1
+msg m0 e0 e64
+msg m00 e0 e1
+msg e0 e1 m0
+msg m0 r0 e0
+msg m0 e0 w0
+msg m0 e0 e1 e2
+msg m0 e0 e1 : reap
+msg
+mreq m0
+mreq m0 0
+mreq m0 0g
+mreq m64 00
+mreq w0 00
+mreq m0 00 :
+mreq m0 00 : reap ;
+mreq m0 00 : : reap
+mreq m0 00 reap
+mreq m0 : reap
+mresp
+mresp m64
+mresp r0
+mresp m0 0
+mresp m0 :
+mresp m0 reap
+mcount
+mcount m64
+mcount w0
+mcount m0 0
+mcount m0 : reap
+close m64
+close m07
+close m0 m1
+close m0 : reap
+inner e0 m0
+num m0 1
+timeout m0 5
+cancel m0
+halt m0
+clone m0 m1
+Msg m0 e0 e1
 # the tree of attributes and packets of udev
 attr a b =1
 attr /a/ b =1

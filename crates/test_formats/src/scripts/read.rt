@@ -170,6 +170,19 @@ num w6 65536
 timeout w8 9
 timeout w10 max
 close w11
+# clients of messages
+msg m0 e0 e0
+msg m63 e63 e62
+mreq m0 -
+mreq m63 0aF0
+mresp m0
+mcount m63
+close m63
+msg m1 e2 e3
+mreq m4 05
+mresp m6
+mcount m7
+close m8
 # the tree of attributes and packets of udev
 list
 buses
@@ -280,4 +293,12 @@ script ! timer|write w0 00|flush w0 = steps 1, call, call
 script write w3 - : reap = call 1
 script write w4 5aFf : timer ; reap 0 = call 2
 script flush w13 : ack k0 01 ; reap 0 ; timer = call 3
-script flushend w16 : reap = call 1";
+script flushend w16 : reap = call 1
+# clients of messages
+script msg m0 e0 e1|mcount m0|close m0 = call, call, call
+script mreq m63 00 : ack k0 02 ; reap = call 2
+script mreq m0 - : reap = call 1
+script mresp m63 : pkt k0 81 00000000 ; reap = call 2
+script ! timer|mreq m0 00|mresp m0 = steps 1, call, call
+script mreq m3 5aFf : timer ; reap 0 ; ack k0 02 = call 3
+script mresp m4 : reap 65535 = call 1";
