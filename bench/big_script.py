@@ -239,7 +239,7 @@ def futures(_size):
         yield f"fin f0 d0 {CONTROL} 64 1000\nfwait f0\n"
 
 
-def messages(transfer_size, reads):
+def framed(transfer_size, reads):
     """Messages of 130 bytes in three packets, each read by so many reads until a short packet, with 8 transfers in flight."""
     yield f"{IN}reader r0 e0 {transfer_size}\nnum r0 8\n"
     packets = f"! pkt k0 81 {'5a' * 64} ; pkt k0 81 {'a5' * 64} ; pkt k0 81 2233\n"
@@ -248,12 +248,12 @@ def messages(transfer_size, reads):
 
 def framed64(_size):
     """messages of three packets, read until short packets by transfers of 64 bytes, again and again"""
-    yield from messages(64, 3)
+    yield from framed(64, 3)
 
 
 def framed4096(_size):
     """the same by transfers of 4096 bytes"""
-    yield from messages(4096, 1)
+    yield from framed(4096, 1)
 
 
 def bytewise(_size):
@@ -292,6 +292,15 @@ def echoed(_size):
     yield from itertools.repeat(f"write w0 {'5a' * 130}\nwrite w0 a5a5\nwend w0\n! {echoes}\nflush w0\nsread r0 200\nsread r0 200\nendmsg r0\n")
 
 
+def messages(_size):
+    """requests of a client with bodies of 100 bytes, and responses with bodies of 126 in three packets, again and again"""
+    yield f"{IN}endpoint e1 i0 02 bulk-out\nmsg m0 e1 e0\n"
+    for number in itertools.count():
+        head = number.to_bytes(4, "little").hex()
+        packets = f"pkt k0 81 {head}{'5a' * 60} ; pkt k0 81 {'a5' * 64} ; pkt k0 81 2233"
+        yield f"mreq m0 {'5a' * 100}\n! ack k0 02 ; ack k0 02\nmresp m0 : {packets}\n"
+
+
 def comments(_size):
     """comments"""
     yield OPENED
@@ -303,7 +312,7 @@ KINDS = {
     for kind in (
         polls, cycles, behind, flight, cancels, waits, refused, armed, submitout, steps, claims, closes, owners, openings,
         refusals, descriptors, printed, attributes, again, matches, packets, control, futures, framed64, framed4096,
-        bytewise, written64, written4096, writes, echoed, comments,
+        bytewise, written64, written4096, writes, echoed, messages, comments,
     )
 }
 

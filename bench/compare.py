@@ -7,7 +7,7 @@ In one script in five most calls are about a tree of attributes and packets of u
 interfaces, some of whose attributes are missing, denied or damaged. Each other script has a few simulated devices, and then
 calls and steps over few names, so that names collide, endpoints are busy, tickets are reaped in any order and devices are
 pulled out while transfers are open. In a quarter of the scripts most calls are control transfers, with deadlines that pass while
-they wait, in another reads of readers, in a third transfers of endpoints; in the others most are about owners: claims, clones,
+they wait, in another reads of readers, in a third transfers of endpoints; in some requests of clients and responses; in the others most are about owners: claims, clones,
 closes, kernel drivers, configurations and alternate settings. In some, deadlines of transfers pass by steps of the timer, and in
 some while a control transfer is waited for. In about a third of the scripts no refusal is armed. One in ten has a malformed line.
 Some scripts print the descriptors of damaged devices, and in some more than 1,024 tickets are unreaped.
@@ -26,7 +26,7 @@ LANGUAGE = pathlib.Path(__file__).parent.parent / "docs/SCRIPT.md"
 ANSWERS = [
     "ok", "condition", "error", "device", "desc", "count", "pending", "none", "done", "now", "ticket", "config", "noconfig", "speed",
     "alt", "if", "list", "buses", "info", "sysfs", "match", "connected", "disconnected", "data", "failed", "langs", "string",
-    "read", "buf", "io", "end", "expected", "wrote",
+    "read", "buf", "io", "end", "expected", "wrote", "request", "response", "msgerror",
 ]
 STATUSES = ["ok", "cancelled", "stall", "disconnected", "fault", "invalid", "unknown"]
 ENDS = ["taken", "dropped", "reclaimed"]
@@ -46,6 +46,8 @@ FAULTS = [
     "io InvalidInput invalid or unsupported argument", "io Other unknown",
 ]
 WRITE_FAULTS = ["io Interrupted transfer was cancelled", *FAULTS]
+# what ends a client of messages
+ENDINGS = ["msgerror short", "msgerror too-long", "msgerror wrong-tag", *WRITE_FAULTS]
 UNKNOWN_CONFIGURATION = "noconfig no descriptor found for active configuration 7"
 
 # by call the answers that it gives without an armed refusal, and those that want one
@@ -129,6 +131,11 @@ OF_CALLS = {
     "flushend": (["ok", *WRITE_FAULTS, NOT_WRITTEN], []),
     "pollflush": (["ok", *WRITE_FAULTS, "pending"], []),
     "pollflushend": (["ok", *WRITE_FAULTS, "pending"], []),
+    "msg": (["ok"], []),
+    "mreq": (["request", *ENDINGS, NOT_WRITTEN], []),
+    "mresp": (["response", "response -", *ENDINGS, TIMED_OUT], []),
+    "mcount": (["count 0", "count 1", "count 16"], []),
+    "close m": (["ok"], []),
 }
 
 CONFIGURATIONS = [
@@ -469,7 +476,7 @@ def crowd_steps(r):
 def crowd_call(r):
     if r.random() < 0.1:
         return "now"
-    return r.choice([transfer_call, owner_call, control_call, reader_call, reading_call, writer_call, tree_call])(r)
+    return r.choice([transfer_call, owner_call, control_call, reader_call, reading_call, writer_call, tree_call, lambda r: client_call(r, {})])(r)
 
 
 def lines_of_crowds(r):
@@ -556,6 +563,86 @@ def lines_of_writers(r):
     if r.random() < 0.4:
         lines += [f"reader r0 e0 {r.choice([8, 64, 64, 128, 192])}", f"num r0 {r.choice([1, 2, 4])}", "pollsread r0 1"]
     return lines + [f"writer w0 e1 {r.choice([8, 64, 64, 128, 512])}", f"num w0 {r.choice([1, 1, 2, 4])}"]
+
+
+def packets_of(message):
+    """The steps by which a device sends these bytes as a message, in packets of 64 bytes."""
+    packets = [message[at : at + 64].hex() or "-" for at in range(0, len(message) + 1, 64)]
+    return " ; ".join(f"pkt k0 81 {it}" + " ; reap" * (at % 8 == 7) for at, it in enumerate(packets))
+
+
+def response_steps(r, due):
+    """What a device does where this tag is due to a client: mostly it sends a message with that tag."""
+    tag = due.to_bytes(4, "little")
+    body = r.randbytes(r.choice([0, 0, 1, 5, 59, 60, 61, 124, 508, 600, 4096]))
+    other = r.choice([due + 1, 0, 256, 2**32 - 1]).to_bytes(4, "little")
+    usual = [lambda: packets_of(tag + body)] * 24 + [lambda: "echo k0 02 81"] * 8
+    ends = [lambda: packets_of(other + body), lambda: packets_of(tag[: r.randrange(4)]), lambda: packets_of(tag + bytes(4097))]
+    return r.choice([*usual, *ends, lambda: f"fail k0 81 {r.choice(FAILURES)}", lambda: f"fail k0 81 {r.choice([2, 32, 108])}"])()
+
+
+def client_steps(r):
+    return " ; ".join(r.choice([writer_step, writer_step, reader_step])(r) for _ in range(r.randint(1, 4)))
+
+
+def client_own(r):
+    return r.choice(["", "", " : ack k0 02", f" : {client_steps(r)}"])
+
+
+def request_call(r, x, due, body, own_steps):
+    """Sends a request, where it can: it is counted among those of the client."""
+    due.setdefault(x, [0, 0])[0] += 1
+    return f"mreq {x} {body}{own_steps}"
+
+
+def response_call(r, x, due):
+    """Takes a response, and counts on it that it comes, where a request is outstanding."""
+    requests, responses = due.setdefault(x, [0, 0])
+    if r.random() < 0.15:
+        return f"mresp {x}{client_own(r)}"
+    due[x][1] = min(requests, responses + 1)
+    return f"mresp {x} : {response_steps(r, responses)}"
+
+
+def new_client(r, x, due):
+    """Makes a client of endpoints that were used before, now and then."""
+    due[x] = [0, 0]
+    lines = ["endpoint e0 i0 81 bulk-in", "endpoint e1 i0 02 bulk-out"]
+    lines += r.choice([[], [], ["submitin e0 64", "! pkt k0 81 0102 ; reap", "poll e0"], ["xferout e1 0102 50 : ack k0 02"], ["submitout e1 -", f"! {r.choice(['ack k0 02 ; ', ''])}reap", "poll e1"]])
+    return "\n".join([*lines, f"msg {x} {r.choice(['e1 e0'] * 19 + ['e0 e1'])}"])
+
+
+def many_requests(r, x, due):
+    """More requests than may be outstanding, now and then."""
+    count = r.choice([2, 5, 17])
+    due.setdefault(x, [0, 0])[0] += count
+    return "\n".join([f"mreq {x} - : ack k0 02"] * count + [f"mcount {x}"])
+
+
+def client_call(r, due):
+    x = "m0" if r.random() < 0.9 else name(r, "m", 3)
+    return r.choice([
+        lambda: request_call(r, x, due, hexes(r, [0, 1, 5, 59, 60, 61, 124, 200, 4096]), client_own(r)),
+        lambda: request_call(r, x, due, hexes(r, [0, 1, 60]), " : ack k0 02 ; ack k0 02"),
+        lambda: request_call(r, x, due, hexes(r, [0, 1, 60]), " : ack k0 02 ; ack k0 02"),
+        lambda: f"mreq {x} {hexes(r, [4096, 4097])}",
+        lambda: response_call(r, x, due),
+        lambda: response_call(r, x, due),
+        lambda: response_call(r, x, due),
+        lambda: response_call(r, x, due),
+        lambda: "\n".join([f"mreq {x} 01"] * 5 + [f"mreq {x} 02 : fail k0 02 {r.choice([*FAILURES, 2, 32, 108])}"]),
+        lambda: f"mcount {x}",
+        lambda: f"msg {name(r, 'm', 3)} {name(r, 'e', 3)} {name(r, 'e', 3)}",
+        lambda: f"close {x}\n! {' ; '.join(['reap'] * 9)}\n{new_client(r, x, due)}",
+        lambda: many_requests(r, x, due),
+        lambda: r.choice([transfer_call, reader_call, writer_call])(r),
+    ])()
+
+
+def lines_of_clients(r, due):
+    """Setup lines and the first calls of a script in which most calls send requests and take responses."""
+    lines = [f"device k0 1 6 3 1 {DEVICE.format(0, 1)}{CONFIGURATIONS[0]}", "open d0 1 6", "claim d0 0 i0"]
+    return [*lines, new_client(r, "m0", due)]
 
 
 def deadline_step(r):
@@ -791,6 +878,8 @@ MALFORMED = [
     "writer w0 e0", "writer e0 w0 64", "writer w0 r0 64", "inner w0 e0", "num w0", "num w0 65537", "timeout w0", "cancel w0", "close w064",
     "write w0", "write w0 0", "write r0 00", "pollwrite w0 00 : reap", "wsubmit w0 : reap", "wsubmit r0", "wend", "wend w0 00", "flush",
     "! echo k0 02", "! echo k0 02 81 81", "! echo d0 02 81", "! echo k0 2 81", "flush w0 1", "flush w0 :", "flushend r0", "pollflush w0 : reap", "pollflushend w0 : reap", "pollflushend e0", "submit w0",
+    "msg m0 e0", "msg e0 e1 m0", "msg m0 r0 e0", "msg m64 e0 e1", "msg m0 e0 e1 : reap", "mreq m0", "mreq m0 0", "mreq w0 00", "mreq m0 00 :",
+    "mresp", "mresp m0 1", "mresp r0", "mcount w0", "mcount m0 : reap", "close m064", "close m0 : reap", "halt m0", "cancel m0", "num m0 1",
 ]
 
 
@@ -822,6 +911,10 @@ def script(seed):
     if r.random() < 0.3:
         call = lambda: (control_call if r.random() < 0.85 else owner_call if r.random() < 0.3 else transfer_call)(r)
         return script_of(r, lines_of_controls(r), call, 60, control_steps)
+    if r.random() < 0.2:
+        due = {}
+        call = lambda: client_call(r, due) if r.random() < 0.95 else owner_call(r)
+        return script_of(r, lines_of_clients(r, due), call, 60, client_steps)
     if r.random() < 0.4:
         call = lambda: (reader_call if r.random() < 0.95 else owner_call)(r)
         return script_of(r, lines_of_readers(r), call, 80, reader_steps)
@@ -884,6 +977,7 @@ def kind_of_answer(call, line):
     if call == "ifdesc":
         return " ".join(line.split()[:2])
     line = re.sub(r"^(read|buf|wrote) [1-9].*$|^(io Other unknown) .*$", lambda found: found[1] or found[2], line)
+    line = re.sub(r"^(request|response) [0-9a-f].*$|^(msgerror [a-z-]+) .*$", lambda found: found[1] or found[2], line)
     line = re.sub(r"^(now|data|langs|string) .*$|^langs$", lambda found: found[0].split()[0], line)
     return re.sub(r"^(error Other failed .*) \(errno [0-9]+\)$|^(failed unknown):[0-9]+$", lambda found: found[1] or found[2], line)
 

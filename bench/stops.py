@@ -8,7 +8,7 @@ the third read fails, of at most 100 bytes each; and standard output takes only 
 end with the status that docs/SCRIPT.md says. With status 0 each ticket has its end, with 6 the beginning of the whole output was
 written, with 5 nothing. (The program writes what it gathered in one piece, so writes of single lines fail in its tests alone.)
 
-With --allocations one allocation fails after the other, each in a run of its own, on three of the scripts. The status is 7 then, or 0
+With --allocations one allocation fails after the other, each in a run of its own, on four of the scripts. The status is 7 then, or 0
 where the allocation was not needed, and what was written is the beginning of the whole output. This takes `cc`, and a program that
 takes its memory by the C library's malloc and realloc.
 """
@@ -54,6 +54,10 @@ SCRIPTS = {
     "messages that are written": [
         OUT, "writer w0 e0 128", "wend w0", "! ack k0 02", f"write w0 {'11' * 128}", "wend w0",
         "flush w0 : ack k0 02 ; ack k0 02 ; ack k0 02", f"write w0 {'22' * 100}", "wend w0", *["flush w0 : ack k0 02"] * 2,
+    ],
+    "requests and responses": [
+        OUT, "endpoint e1 i0 81 bulk-in", "msg m0 e0 e1", "mreq m0 aabb", f"mreq m0 {'11' * 60} : ack k0 02", "mcount m0",
+        "mresp m0 : pkt k0 81 00000000cc", "mresp m0", f"mresp m0 : {packets(64)}", "mreq m0 -", "close m0",
     ],
     "control transfers on their way": [
         "fin f0 d0 vendor device 30 0000 0000 64 100", "fin f1 d0 vendor device 30 0000 0000 64 200", "! clock 100 ; timer", "fpoll f0",
@@ -169,7 +173,7 @@ void *realloc(void *p, size_t n) {
     return left && !--left ? NULL : next(p, n);
 }
 """
-LEAN = ["framed reads of 64 bytes", "messages that are written", "control transfers on their way"]
+LEAN = ["framed reads of 64 bytes", "messages that are written", "requests and responses", "control transfers on their way"]
 
 
 def failed_allocations(program, shim, name, script, output):

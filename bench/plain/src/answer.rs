@@ -1,5 +1,6 @@
 //! The lines that calls and tickets are answered by.
 
+use crate::client::MessageFailure;
 use crate::control::Received;
 use crate::descriptors::{DeviceDescriptor, configurations};
 use crate::host::{Completion, End};
@@ -46,6 +47,11 @@ pub enum Answer {
     /// How many bytes were accepted.
     Wrote(usize),
     NotWritten(WriteFailure),
+    /// The tag of a request.
+    Requested(u32),
+    /// The body of a response.
+    Responded(Vec<u8>),
+    NoMessage(MessageFailure),
     IsEnd(bool),
     /// No end is next.
     NoEnd,
@@ -96,6 +102,9 @@ impl Show for Answer {
             Answer::NotRead(failure) => text.word("io ").show(failure),
             Answer::Wrote(count) => text.word("wrote ").number(*count as u64),
             Answer::NotWritten(failure) => text.word("io ").show(failure),
+            Answer::Requested(tag) => text.word("request ").number((*tag).into()),
+            Answer::Responded(body) => bytes_or_dash(text.word("response "), body),
+            Answer::NoMessage(failure) => text.show(failure),
             Answer::IsEnd(true) => text.word("end true"),
             Answer::IsEnd(false) => text.word("end false"),
             Answer::NoEnd => text.word("expected short packet"),

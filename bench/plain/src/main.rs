@@ -3,6 +3,7 @@
 //! lock and channels. It has no status 7: where memory is wanting it aborts.
 
 mod answer;
+mod client;
 mod control;
 mod descriptors;
 mod errno;

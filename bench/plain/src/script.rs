@@ -66,6 +66,10 @@ pub enum Call {
     WriterIntoInner(Name, Name),
     /// A call on a writer.
     Writer(Name, WriterCall),
+    /// Of two open endpoints, OUT and IN.
+    OpenClient(Name, Name, Name),
+    /// A call on a client of messages.
+    Client(Name, ClientCall),
 }
 
 impl Call {
@@ -85,7 +89,8 @@ impl Call {
                 WriterCall::Write(_, steps)
                 | WriterCall::Flush(steps)
                 | WriterCall::FlushEnd(steps),
-            ) => steps,
+            )
+            | Call::Client(_, ClientCall::Request(_, steps) | ClientCall::Response(steps)) => steps,
             _ => Vec::new(),
         }
     }
@@ -193,6 +198,13 @@ pub enum WriterCall {
     PollFlush,
     FlushEnd(Vec<Step>),
     PollFlushEnd,
+}
+
+pub enum ClientCall {
+    Request(Vec<u8>, Vec<Step>),
+    Response(Vec<Step>),
+    Outstanding,
+    Close,
 }
 
 /// How long a call waits, in nanoseconds, and the steps that are taken meanwhile.
@@ -467,6 +479,17 @@ fn writer_call(verb: &[u8], rest: &[&[u8]]) -> Option<WriterCall> {
     })
 }
 
+/// A call on a client of messages, without the client's name.
+fn client_call(verb: &[u8], rest: &[&[u8]]) -> Option<ClientCall> {
+    Some(match (verb, rest) {
+        (b"mreq", [data, rest @ ..]) => ClientCall::Request(bytes(data)?, own_steps(rest)?),
+        (b"mresp", rest) => ClientCall::Response(own_steps(rest)?),
+        (b"mcount", []) => ClientCall::Outstanding,
+        (b"close", []) => ClientCall::Close,
+        _ => return None,
+    })
+}
+
 fn target(word: &[u8]) -> Option<Target> {
     match name(word, b'd') {
         Some(device) => Some(Target::Device(device)),
@@ -569,6 +592,7 @@ fn call_on(verb: &[u8], word: &[u8], rest: &[&[u8]]) -> Option<Call> {
         b'f' => future_call(name(word, b'f')?, verb, rest)?,
         b'r' => Call::Reader(name(word, b'r')?, reader_call(verb, rest)?),
         b'w' => Call::Writer(name(word, b'w')?, writer_call(verb, rest)?),
+        b'm' => Call::Client(name(word, b'm')?, client_call(verb, rest)?),
         _ => return None,
     })
 }
@@ -693,6 +717,9 @@ fn call(words: &[&[u8]]) -> Option<Call> {
         }
         [b"reader", r, e, n] => Call::OpenReader(name(r, b'r')?, name(e, b'e')?, length(n)?),
         [b"writer", w, e, n] => Call::OpenWriter(name(w, b'w')?, name(e, b'e')?, length(n)?),
+        [b"msg", m, output, input] => {
+            Call::OpenClient(name(m, b'm')?, name(output, b'e')?, name(input, b'e')?)
+        }
         [b"inner", e, w @ [b'w', ..]] => Call::WriterIntoInner(name(e, b'e')?, name(w, b'w')?),
         [b"inner", e, r] => Call::IntoInner(name(e, b'e')?, name(r, b'r')?),
         [b"ctlin", ref words @ ..] => control_call(words, control_in)?,

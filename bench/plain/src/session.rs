@@ -1,6 +1,7 @@
 //! A session: the host, and what the names of its script stand for.
 
 use crate::answer::{Answer, TicketEnd};
+use crate::client::{Client, MessageFailure};
 use crate::control::{Future, Question, Received, units};
 use crate::descriptors::Direction;
 use crate::host::{Data, EndpointKey, Fate, Host, InterfaceKey, OpenDevice, Steps};
@@ -9,8 +10,8 @@ use crate::names::{Name, Names};
 use crate::reader::{Framing, ReadFailure, Reader};
 use crate::refusal::Refusal;
 use crate::script::{
-    Call, Claim, Control, DeviceCall, EndpointCall, InterfaceCall, Line, Open, OpenEndpoint,
-    Patience, ReaderCall, SecondHandle, Target, WriterCall,
+    Call, Claim, ClientCall, Control, DeviceCall, EndpointCall, InterfaceCall, Line, Open,
+    OpenEndpoint, Patience, ReaderCall, SecondHandle, Target, WriterCall,
 };
 use crate::tree::{DeviceInfo, Tree};
 use crate::udev::{self, Notice};
@@ -25,6 +26,7 @@ pub struct Session {
     endpoints: Names<EndpointKey>,
     readers: Names<Reader>,
     writers: Names<Writer>,
+    clients: Names<Client>,
     futures: Names<Future>,
     tree: Tree,
     packets: VecDeque<(u32, Vec<u8>)>,
@@ -146,6 +148,8 @@ impl Session {
             Call::OpenWriter(name, endpoint, size) => self.open_writer(name, endpoint, size),
             Call::WriterIntoInner(endpoint, name) => self.writer_into_inner(endpoint, name),
             Call::Writer(name, call) => self.writer_call(name, call),
+            Call::OpenClient(name, output, input) => self.open_client(name, output, input),
+            Call::Client(name, call) => self.client_call(name, call),
             Call::IntoInner(endpoint, name) => self.into_inner(endpoint, name),
             Call::Reader(name, call) => self.reader_call(name, call),
         }
@@ -543,6 +547,62 @@ impl Session {
         Some(Answer::Ok)
     }
 
+    /// An endpoint of a client: with nothing pending, and its packet size.
+    fn client_endpoint(&self, name: Name, direction: Direction) -> Option<(EndpointKey, usize)> {
+        let key = *self.endpoints.get(name)?;
+        let is_idle = self.host.direction(key) == direction && self.host.pending(key) == 0;
+        is_idle.then(|| (key, self.host.maximum(key)))
+    }
+
+    fn open_client(&mut self, name: Name, output: Name, input: Name) -> Option<Answer> {
+        let out_endpoint = self.client_endpoint(output, Direction::Out)?;
+        let in_endpoint = self.client_endpoint(input, Direction::In)?;
+        *self.clients.vacant(name)? = Some(Client::new(out_endpoint, in_endpoint));
+        self.endpoints.take(output);
+        self.endpoints.take(input);
+        Some(Answer::Ok)
+    }
+
+    fn client_call(&mut self, name: Name, call: ClientCall) -> Option<Answer> {
+        match call {
+            ClientCall::Request(body, steps) => self.message(
+                name,
+                steps,
+                |host, client| host.may_request(client, &body),
+                |host, client, steps| host.request(client, &body, steps).map(Answer::Requested),
+            ),
+            ClientCall::Response(steps) => {
+                self.message(name, steps, Host::may_respond, |host, client, steps| {
+                    host.respond(client, steps).map(Answer::Responded)
+                })
+            }
+            ClientCall::Outstanding => {
+                let count = self.clients.get(name)?.outstanding();
+                Some(Answer::Count(count as usize))
+            }
+            ClientCall::Close => {
+                self.host.close_client(&self.clients.take(name)?);
+                Some(Answer::Ok)
+            }
+        }
+    }
+
+    /// A call of a client, where it may be made. The steps that are left are taken right after it.
+    fn message(
+        &mut self,
+        name: Name,
+        steps: Vec<Step>,
+        may: impl FnOnce(&Host, &Client) -> bool,
+        call: impl FnOnce(&mut Host, &mut Client, &mut Steps) -> Result<Answer, MessageFailure>,
+    ) -> Option<Answer> {
+        let mut steps = steps.into_iter();
+        let (client, host) = (self.clients.get_mut(name), &mut self.host);
+        let client = client.filter(|client| may(host, client));
+        let answer = client.map(|it| call(host, it, &mut steps).unwrap_or_else(Answer::NoMessage));
+        self.take_steps(steps);
+        answer
+    }
+
     /// Makes a call that waits. The steps that are left are taken right after it.
     fn with_steps<A>(
         &mut self,
@@ -555,9 +615,12 @@ impl Session {
         answer
     }
 
-    /// Closes the readers, the writers, the endpoints, the futures and then the interfaces, and ends each ticket. Of a device
+    /// Closes the clients, the readers, the writers, the endpoints, the futures and then the interfaces, and ends each ticket. Of a device
     /// nothing is left to close.
     pub fn finish(&mut self) {
+        for (_, client) in self.clients.iter() {
+            self.host.close_client(client);
+        }
         for (_, reader) in self.readers.iter() {
             self.host.close_endpoint(reader.endpoint);
         }

@@ -89,6 +89,12 @@ impl Host {
         )
     }
 
+    /// Whether a message of so many bytes may be handed in, its end with it.
+    pub fn may_send(&self, writer: &Writer, count: usize) -> bool {
+        let need = 1 + usize::from(count.is_multiple_of(writer.maximum));
+        self.has_room_for(writer.endpoint, need)
+    }
+
     fn send(&mut self, writer: &Writer, bytes: Vec<u8>, room: usize) {
         self.hand_in(writer.endpoint, Data::Out(bytes), room, None);
     }

@@ -172,3 +172,8 @@ fn trees_and_packets() {
 fn writers() {
     check(include_str!("worked/writers.txt"));
 }
+
+#[test]
+fn clients() {
+    check(include_str!("worked/clients.txt"));
+}
