@@ -1,1 +1,5 @@
 pub mod Pipes
+pub mod Exchanges
+pub mod Claims
+pub mod Opening
+pub mod Packets

@@ -1,6 +1,6 @@
-//! The driver on a simulated device. Expected values come from the packets of the scripts.
+//! The drivers on a simulated device. Expected values come from the packets of the scripts.
 
-use crate::Echo;
+use crate::{Echo, read_packet};
 use std::test;
 use usb_device::{Error, Fail, TransferError};
 use usb_device_bench::{SimBench, sent};
@@ -49,5 +49,32 @@ fn what_does_not_come_is_cancelled(rt: HostRuntime) -> Result<(), test::Fail> {
         .accept(0x02)?
         .until(1_000_000_000)?;
     assert!(rt; is_failed(bench, TransferError::Cancelled)?);
+    Ok(())
+}
+
+/// Whether a packet that comes is read, with nothing left open.
+fn is_read(bench: SimBench) -> Result<bool, Fail<Error>> {
+    let mut host = bench.host()?;
+    let read = read_packet(&mut host)?;
+    let is_there = matches!(read, Some(done) if done.buffer.as_slice() == [1, 2, 3].as_slice());
+    Ok(is_there && host.endpoint_count() == 0)
+}
+
+/// Whether none is read where none comes.
+fn is_not_read(bench: SimBench) -> Result<bool, Fail<Error>> {
+    let mut host = bench.host()?;
+    Ok(read_packet(&mut host)?.is_none())
+}
+
+#[test]
+fn a_packet_is_read(rt: HostRuntime) -> Result<(), test::Fail> {
+    let bench = SimBench::new(rt.alloc(), &DEVICE)?.packet(0x81, &[1, 2, 3])?;
+    assert!(rt; is_read(bench)?);
+    Ok(())
+}
+
+#[test]
+fn no_packet_is_read_where_none_comes(rt: HostRuntime) -> Result<(), test::Fail> {
+    assert!(rt; is_not_read(SimBench::new(rt.alloc(), &DEVICE)?)?);
     Ok(())
 }
