@@ -1,0 +1,7 @@
+mod Digits
+pub mod FatesTold
+mod Going
+pub mod LinesRead
+pub mod Splits
+pub mod Told
+mod WordsRead

@@ -1,0 +1,34 @@
+-- What writing lines leaves behind.
+use Rattle.std.specs.Prelude.{ℕ, ◌≡◌, ◌+◌, ◌-◌, ◌^◌, min, List, [], ◌∷◌, ◌++◌}
+use Rattle.std.specs.declared.option.Option.{Option}
+use Rattle.std.specs.Io.KnownBytes.{Appends}
+
+-- what takes lines: the bytes of the lines that were written, where they are told; the line that is
+-- begun; and how many writes failed
+pub record LinesState : Type 0 where
+  pub written : Option (List ℕ)
+  pub begun : List ℕ
+  pub faults : ℕ
+
+-- more bytes of the line that is begun
+abbrev pub begun_with : LinesState → List ℕ → LinesState
+begun_with s bytes = record s { begun = s.begun ++ bytes }
+
+-- the line that is begun, with its LF
+abbrev pub ended_line : LinesState → List ℕ
+ended_line s = s.begun ++ 10 ∷ []
+
+-- whole lines were written, of these bytes, and none is begun
+pub record HasWritten (old new : LinesState) (bytes : List ℕ) : Type 0 where
+  pub appended : Appends old.written new.written bytes
+  pub empty : new.begun ≡ []
+  pub quiet : new.faults ≡ old.faults
+
+-- one write failed, and a prefix of these bytes was written: what was done and what is left make the whole. A count of faults stays at
+-- the greatest `u64`
+pub record HasStopped (old new : LinesState) (whole : List ℕ) : Type 0 where
+  pub done : List ℕ
+  pub left : List ℕ
+  pub appended : Appends old.written new.written done
+  pub complete : done ++ left ≡ whole
+  pub rose : new.faults ≡ min (old.faults + 1) (2 ^ 64 - 1)
