@@ -39,7 +39,7 @@ fate-of past t s at =
     slice_get-map (λ (p : ℕ × Ticket). fate_told p.0 (info_for p.1 (fate past p.0))) (enumerate_from 0 (tickets past)) t
     ∙ ap (option_map (λ (p : ℕ × Ticket). fate_told p.0 (info_for p.1 (fate past p.0)))) entry
 
-fate-at : (past : List Event) (t : ℕ) (info : TicketInfo) → info_of past t ≡ Some info → slice_get (fates_of past) t ≡ Some (fate_told t info)
+pub fate-at : (past : List Event) (t : ℕ) (info : TicketInfo) → info_of past t ≡ Some info → slice_get (fates_of past) t ≡ Some (fate_told t info)
 fate-at past t info is =
     let found = told_by t (fate past t) (slice_get (tickets past) t) info is in
     fate-of past t found.0 found.1.0 ∙ ap (λ (i : TicketInfo). Some (fate_told t i)) (sym found.1.1)

@@ -1,0 +1,16 @@
+pub mod Agree
+pub mod Appended
+pub mod Bare
+pub mod Complete
+pub mod Counted
+pub mod FirstOther
+pub mod Gone
+pub mod Judged
+pub mod Keeping
+pub mod Malformed
+pub mod Plugged
+pub mod Range
+pub mod Replaying
+pub mod TextLines
+pub mod TextRead
+pub mod Whole

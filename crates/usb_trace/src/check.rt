@@ -1,0 +1,101 @@
+//! The check of a trace.
+
+ghost use Rattle.std.specs.Prelude.{◌≡◌, ◌+◌, ◌≤◌, ◌^◌, ◌⊎◌, ◌≢◌, ℕ, length, slice_get, false, Ok, Err, Some, None, OnOk, IfSome, IsTrue};
+ghost use Rattle.std.specs.List.{All};
+ghost use Rattle.usb_trace_lines.specs.Fates.{fates_of};
+ghost use Rattle.usb_trace_lines.specs.Forms.{IsTold, IsFateTold};
+ghost use Rattle.usb_trace_lines.specs.Texts.{trace_text};
+ghost use Rattle.usb_trace.specs.Begins.{IsForm};
+ghost use Rattle.usb_trace.specs.Fails.{FailsFirstAt};
+ghost use Rattle.usb_trace.specs.FirstOther.{IsFirstOther};
+ghost use Rattle.usb_trace.specs.Verdicts.{IsTrace};
+
+use crate::error::TraceError;
+use crate::journal::{fresh_kernel, replay};
+use crate::text::{TraceText, read_text};
+use std::alloc::Global;
+use usb_desc::NoMemory;
+use usb_kernel::Kernel;
+use usb_trace_lines::FateLine;
+
+/// Whether a text of the form of a trace is one. If not, it is told by the first line that no trace
+/// can have there, counted from 1.
+#[derive(Clone, Copy, Debug, PartialEq, Eq)]
+pub enum Verdict {
+    Yes,
+    No { line: u32 },
+}
+
+/// Whether this fate stands at a place.
+fn is_at(fates: &[FateLine], place: usize, fate: FateLine) -> bool
+    ensures at { IsTrue result → slice_get fates.now place ≡ Some fate }
+    ensures other { result ≡ false → slice_get fates.now place ≢ Some fate }
+{
+    match fates.get(place) {
+        Some(told) => *told == fate,
+        None => false,
+    }
+}
+
+/// The first place at which fates are not those of a kernel's tickets, if there is one.
+fn first_other_fate(kernel: &Kernel, fates: &[FateLine]) -> Option<usize>
+    ensures none { result ≡ None → fates.now ≡ fates_of kernel.now.past }
+    ensures some { IfSome result (IsFirstOther fates.now (fates_of kernel.now.past)) }
+{
+    let tickets = kernel.tickets();
+    for ticket in 0..tickets {
+        let fate = FateLine::of(ticket, &kernel.ticket(ticket));
+        if !is_at(fates, ticket as usize, fate) {
+            return Some(ticket as usize);
+        }
+    }
+    if fates.len() > tickets as usize {
+        return Some(tickets as usize);
+    }
+    None
+}
+
+/// The verdict on the text of these events and fates.
+fn judge(alloc: Global, text: TraceText) -> Result<Verdict, NoMemory>
+    requires events { All IsTold text.events.items }
+    requires fates { All IsFateTold text.fates.items }
+    requires few { length text.events.items + length text.fates.items ≤ 2 ^ 24 }
+    ensures yes { result ≡ Ok Verdict.Yes
+        → IsTrace (trace_text text.events.items text.fates.items) }
+    ensures no { (line : ℕ) → result ≡ Ok (Verdict.No line)
+        → FailsFirstAt IsTrace (trace_text text.events.items text.fates.items) line }
+{
+    let count = text.events.len();
+    let mut kernel = fresh_kernel(alloc, count)?;
+    if let Some(place) = replay(alloc, &mut kernel, text.events)? {
+        return Ok(Verdict::No {
+            line: place as u32 + 2,
+        });
+    }
+    match first_other_fate(&kernel, text.fates.as_slice()) {
+        Some(place) => Ok(Verdict::No {
+            line: (count + place) as u32 + 2,
+        }),
+        None => Ok(Verdict::Yes),
+    }
+}
+
+/// Whether a text of at most 2^24 bytes is the trace of a journal in which each event acts. Where
+/// it is outside the form of a trace, the error tells the first line that is.
+pub fn check_trace(alloc: Global, bytes: &[u8]) -> Result<Verdict, TraceError>
+    requires few { length bytes.now ≤ 2 ^ 24 }
+    ensures yes { result ≡ Ok Verdict.Yes → IsTrace bytes.now }
+    ensures form { OnOk result (IsForm bytes.now) }
+    ensures no { (line : ℕ) → result ≡ Ok (Verdict.No line)
+        → FailsFirstAt IsTrace bytes.now line }
+    ensures malformed { (line : ℕ) → result ≡ Err (TraceError.Malformed line)
+        → FailsFirstAt IsForm bytes.now line }
+    ensures complete { IsTrace bytes.now
+        → (result ≡ Ok Verdict.Yes) ⊎ (result ≡ Err TraceError.Memory) }
+{
+    let text = read_text(alloc, bytes)?;
+    match judge(alloc, text) {
+        Ok(verdict) => Ok(verdict),
+        Err(NoMemory) => Err(TraceError::Memory),
+    }
+}
