@@ -1,8 +1,11 @@
-//! Tests of traces: what is written of a kernel's journal, and which lines tell something.
+//! Tests of traces: what is written of a kernel's journal, which lines tell something, and what the
+//! check of a text answers.
 #![tactic(auto)]
 
 #[cfg(test)]
 mod acts;
+#[cfg(test)]
+mod checked;
 #[cfg(test)]
 mod lines;
 #[cfg(test)]
