@@ -18,7 +18,7 @@ pub enum Act {
     WantBy(u8, u16, u64),
     /// The same at device 9.
     WantNothing(u8, u16),
-    /// A transfer of these bytes, in packets of 64.
+    /// A transfer of these bytes, in one packet of at most 64.
     Send(u8, &'static [u8]),
     Packet(u8, &'static [u8]),
     Ack(u8),
@@ -68,7 +68,7 @@ fn wanting(
     })
 }
 
-/// A transfer of bytes to an endpoint.
+/// A transfer of the first 64 of these bytes.
 fn sending(alloc: Global, endpoint: u8, bytes: &[u8]) -> Result<Submission, NoMemory>
     ensures whole { IfOk result IsWhole }
 {
@@ -79,7 +79,7 @@ fn sending(alloc: Global, endpoint: u8, bytes: &[u8]) -> Result<Submission, NoMe
         maximum: 64,
         deadline: None,
         setup: None,
-        buffer: Buffer::from_vec(Bytes::from_slice(alloc, bytes)?.into_vec()),
+        buffer: Buffer::from_slice(alloc, &bytes[..bytes.len().min(64)])?,
     })
 }
 

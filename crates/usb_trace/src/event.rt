@@ -60,7 +60,8 @@ fn buffer(alloc: Global, endpoint: u8, body: Body) -> Result<Buffer, NoMemory>
     }
 }
 
-/// A submission is done again. It answers whether it acts, and where it does not, the kernel is of no further use.
+/// A submission is done again. It answers whether it acts. Where it does not, the kernel is of no
+/// further use.
 fn submit(
     kernel: &mut Kernel,
     alloc: Global,
@@ -149,9 +150,9 @@ fn discard(kernel: &mut Kernel, ticket: u64) -> bool
     ensures replaying { IsTrue result → IsReplaying kernel.new }
     ensures spare { kernel.new.spare ≡ kernel.old.spare }
 {
-    let before = kernel.journal().len();
+    let count = kernel.journal().len();
     kernel.discard(ticket);
-    before < kernel.journal().len()
+    count < kernel.journal().len()
 }
 
 /// The step as which an event came.
@@ -211,8 +212,8 @@ fn step_again(kernel: &mut Kernel, event: Event) -> bool
     acts(kernel, step_for(event))
 }
 
-/// Does an event again at a kernel to which the events before it were done. It answers whether the event acts; where it does not, the
-/// kernel is of no further use.
+/// Does an event again at a kernel to which the events before it were done. It answers whether the
+/// event acts. Where it does not, the kernel is of no further use.
 pub(crate) fn do_again(kernel: &mut Kernel, alloc: Global, event: Event) -> Result<bool, NoMemory>
     requires replaying { IsReplaying kernel.old }
     requires done { CanBeDone event }
