@@ -52,6 +52,7 @@ pub(crate) enum Stream {
 }
 
 /// A ticket that is unfinished, and how many of its bytes have gone over.
+#[derive(Clone, Copy)]
 struct Open {
     ticket: usize,
     count: usize,
@@ -74,8 +75,12 @@ struct Look {
 #[derive(Default)]
 struct Turn {
     steps: Vec<String>,
-    /// How many bytes of a ticket have gone over, and whether it is finished then.
-    moved: Vec<(usize, usize, bool)>,
+    /// How many bytes of a ticket have gone over then.
+    counts: BTreeMap<usize, usize>,
+    /// The tickets that are finished then.
+    finished: BTreeSet<usize>,
+    /// The endpoints whose device was asked.
+    asked: BTreeSet<Place>,
 }
 
 /// A bench's script and its devices.
@@ -95,7 +100,12 @@ pub(crate) struct Session {
     /// How many tickets may be unfinished at an endpoint.
     bounds: BTreeMap<Place, usize>,
     pub(crate) streams: BTreeMap<Place, Stream>,
-    expected: Vec<(usize, usize)>,
+    /// The tickets that are unfinished, where that is known without a question.
+    open: Option<Vec<Open>>,
+    /// How many bytes of a ticket have gone over, as it was reckoned.
+    expected: BTreeMap<usize, usize>,
+    /// The devices that may refuse a transfer.
+    may_refuse: BTreeSet<usize>,
 }
 
 /// A step line of these steps, or nothing.
@@ -129,7 +139,9 @@ impl Session {
             settled: 0,
             bounds: BTreeMap::new(),
             streams: BTreeMap::new(),
-            expected: Vec::new(),
+            open: Some(Vec::new()),
+            expected: BTreeMap::new(),
+            may_refuse: BTreeSet::new(),
         }
     }
 
@@ -169,12 +181,14 @@ impl Session {
     /// Adds steps.
     pub(crate) fn step(&mut self, steps: &[String]) {
         self.has_begun = true;
+        self.open = None;
         self.script += &step_line(steps);
     }
 
     /// Adds a call that is answered `ok`. Its answer is looked at with the next one.
     pub(crate) fn say(&mut self, line: &str) {
         self.has_begun = true;
+        self.open = None;
         self.script += line;
         self.script.push('\n');
         self.unheard += 1;
@@ -182,12 +196,32 @@ impl Session {
 
     /// Adds a call that is answered `ok` and hands in this transfer.
     pub(crate) fn hand_in(&mut self, line: &str, ticket: Ticket) {
-        if !self.undiscovered.is_empty() {
-            self.discover();
-        }
+        self.discover();
+        let open = self.with_open(&ticket);
         self.say(line);
+        self.open = open;
         *self.bounds.entry(ticket.place).or_default() += 1;
         self.tickets.push(ticket);
+    }
+
+    /// The unfinished tickets once this one is handed in, where it is known whether it is accepted.
+    /// What is reckoned here is compared with the fates in the next look.
+    fn with_open(&self, own: &Ticket) -> Option<Vec<Open>> {
+        let (device, _) = own.place;
+        let is_whole = match own.work {
+            Work::In { len, max } => len > 0 && len % max == 0,
+            _ => true,
+        };
+        let is_accepted =
+            is_whole && !self.devices[device].is_gone() && !self.may_refuse.contains(&device);
+        let mut open = self.open.clone().filter(|_| is_accepted)?;
+        open.push(Open { ticket: self.tickets.len(), count: 0 });
+        Some(open)
+    }
+
+    /// From now on this device may refuse a transfer.
+    pub(crate) fn may_refuse(&mut self, device: usize) {
+        self.may_refuse.insert(device);
     }
 
     /// Adds a call, and gives its answer.
@@ -205,12 +239,16 @@ impl Session {
     /// Adds a call that waits, with the steps that the devices make meanwhile. Where it answers
     /// `is_vain` it leaves what is pending as it is.
     pub(crate) fn wait(&mut self, line: &str, is_vain: fn(&str) -> bool) -> String {
-        let mut steps = Vec::new();
+        self.discover();
+        let known = self.open.clone().unwrap_or_default();
+        let first = self.serve(&known, &[], None, &BTreeSet::new());
+        let quiet = if first.steps.is_empty() { first.asked } else { BTreeSet::new() };
+        let mut steps = first.steps;
         loop {
             let text = with_steps(line, &steps);
             let look = self.look(&text, None);
             let turn = match is_vain(&look.answer) {
-                true => self.serve(&look, None),
+                true => self.serve(&look.open, &look.handed_in, None, &quiet),
                 false => Turn::default(),
             };
             if turn.steps.is_empty() {
@@ -222,22 +260,24 @@ impl Session {
 
     /// Adds a call that hands in a transfer and waits for it, with the steps that the devices make
     /// meanwhile. `twin` hands in the same and does not wait: it tells whether the transfer is
-    /// accepted.
+    /// accepted, where that is not known.
     pub(crate) fn exchange(&mut self, line: &str, twin: &str, ticket: Ticket) -> String {
+        self.discover();
+        let own = self.tickets.len();
         let mut steps = Vec::new();
+        let mut known = self.with_open(&ticket).map(|open| (open, Vec::new()));
         loop {
-            let text = format!("{twin}\n{}", step_line(&steps));
-            let look = self.look(&text, Some(&ticket));
-            let own = self.tickets.len();
-            let is_open = look.open.iter().any(|open| open.ticket == own);
-            let turn = match is_open {
-                true => self.serve(&look, Some(&ticket)),
+            let (open, handed_in) = known.take().unwrap_or_else(|| {
+                let look = self.look(&format!("{twin}\n{}", step_line(&steps)), Some(&ticket));
+                (look.open, look.handed_in)
+            });
+            let turn = match open.iter().any(|open| open.ticket == own) {
+                true => self.serve(&open, &handed_in, Some(&ticket), &BTreeSet::new()),
                 false => Turn::default(),
             };
-            let is_done = turn.moved.iter().any(|it| it.0 == own && it.2);
-            let is_quiet = turn.steps.is_empty();
+            let is_over = turn.steps.is_empty() || turn.finished.contains(&own);
             steps.extend(turn.steps);
-            if is_done || is_quiet {
+            if is_over {
                 break;
             }
         }
@@ -251,14 +291,14 @@ impl Session {
     pub(crate) fn go_on(&mut self) {
         loop {
             let look = self.look("", None);
-            let turn = self.serve(&look, None);
+            let turn = self.serve(&look.open, &look.handed_in, None, &BTreeSet::new());
             self.settle(&look);
             if turn.steps.is_empty() {
                 return;
             }
             self.step(&turn.steps);
-            let finished = turn.moved.iter().filter(|it| it.2).count();
-            self.reap(finished);
+            self.expected = turn.counts;
+            self.reap(turn.finished.len());
         }
     }
 
@@ -337,8 +377,8 @@ impl Session {
                 let address = u8::from_str_radix(address, 16).expect("an address");
                 handed_in.push((number(&device[1..]), address));
             }
-            if let Some(expected) = self.expected.iter().find(|it| it.0 == ticket) {
-                assert_eq!(expected.1, count, "ticket {ticket} was reckoned otherwise");
+            if let Some(&expected) = self.expected.get(&ticket) {
+                assert_eq!(expected, count, "ticket {ticket} was reckoned otherwise");
             }
             if status == unfinished {
                 open.push(Open { ticket, count });
@@ -367,6 +407,7 @@ impl Session {
                 *self.bounds.entry(ticket.place).or_default() += 1;
             }
         }
+        self.open = Some(look.open.clone());
     }
     /// Takes over the tickets that readers and writers have handed in.
     pub(crate) fn discover(&mut self) {
@@ -384,15 +425,21 @@ impl Session {
         }
     }
 
-    /// A ticket of a look.
-    fn ticket_of(&self, look: &Look, own: Option<&Ticket>, number: usize) -> Option<Ticket> {
-        if let Some(ticket) = self.tickets.get(number) {
-            return Some(ticket.clone());
+    /// A ticket: one that is known, the own one of a call, or one that a call's reader hands in.
+    fn ticket_of(
+        &self,
+        number: usize,
+        handed_in: &[Place],
+        own: Option<&Ticket>,
+    ) -> Option<Ticket> {
+        let behind = match number.checked_sub(self.tickets.len()) {
+            None => return self.tickets.get(number).cloned(),
+            Some(behind) => behind,
+        };
+        if let (0, Some(own)) = (behind, own) {
+            return Some(own.clone());
         }
-        if let (Some(ticket), true) = (own, number == self.tickets.len()) {
-            return Some(ticket.clone());
-        }
-        let place = look.handed_in[number - self.tickets.len()];
+        let place = handed_in[behind];
         match self.streams.get(&place) {
             Some(&Stream::Reader { len, max }) => {
                 Some(Ticket { place, work: Work::In { len, max } })
@@ -402,41 +449,59 @@ impl Session {
     }
 
     /// Lets the devices act on what is unfinished: of each endpoint one transfer after the other,
-    /// up to the first that they don't finish.
-    fn serve(&mut self, look: &Look, own: Option<&Ticket>) -> Turn {
+    /// up to the first that they don't finish. The endpoints in `quiet` are left out.
+    fn serve(
+        &mut self,
+        open: &[Open],
+        handed_in: &[Place],
+        own: Option<&Ticket>,
+        quiet: &BTreeSet<Place>,
+    ) -> Turn {
         let mut turn = Turn::default();
-        let mut stopped = BTreeSet::new();
-        for open in &look.open {
-            let Some(ticket) = self.ticket_of(look, own, open.ticket) else {
+        let mut stopped = quiet.clone();
+        let mut gone = BTreeSet::new();
+        for open in open {
+            let Some(ticket) = self.ticket_of(open.ticket, handed_in, own) else {
                 continue;
             };
-            let (device, _) = ticket.place;
-            if stopped.contains(&ticket.place) || self.devices[device].is_gone() {
+            let (number, _) = ticket.place;
+            let device = &mut self.devices[number];
+            if device.is_gone() {
+                if gone.contains(&number) {
+                    turn.finished.insert(open.ticket);
+                }
                 continue;
             }
-            if !turn.serve(&mut self.devices[device], &ticket, open) {
+            if stopped.contains(&ticket.place) {
+                continue;
+            }
+            turn.asked.insert(ticket.place);
+            if !turn.serve(device, &ticket, open) {
                 stopped.insert(ticket.place);
             }
+            if device.is_gone() {
+                gone.insert(number);
+            }
         }
-        self.expected = turn.moved.iter().map(|&(ticket, count, _)| (ticket, count)).collect();
+        self.expected.clone_from(&turn.counts);
         turn
     }
 }
 
 impl Turn {
-    /// Lets a device act on an unfinished transfer, and says whether it is finished and the next
-    /// one may follow.
+    /// Lets a device act on an unfinished transfer, and says whether it succeeded, so that the next
+    /// one of the endpoint may follow.
     fn serve(&mut self, device: &mut Plugged, ticket: &Ticket, open: &Open) -> bool {
         match &ticket.work {
-            &Work::In { len, max } => self.serve_in(device, ticket.place, (len, max), open),
-            Work::Out { bytes, max } => self.serve_out(device, ticket.place, (bytes, *max), open),
+            &Work::In { len, max } => self.serve_in(device, ticket.place, (len, max), *open),
+            Work::Out { bytes, max } => self.serve_out(device, ticket.place, (bytes, *max), *open),
             &Work::ControlIn(request) => {
-                let reply = device.control_in(request);
-                self.packet(device, ticket.place, reply, |count| (open.ticket, count, true))
+                let (reply, len) = (device.control_in(request), usize::from(request.length));
+                self.packet(device, ticket.place, reply, *open, (len, len))
             }
             Work::ControlOut { head, bytes } => {
                 let reply = device.control_out(ControlOut { data: bytes, ..*head });
-                self.acknowledge(device, ticket.place, reply, (open.ticket, bytes.len(), true))
+                self.acknowledge(device, ticket.place, reply, *open, (bytes.len(), true))
             }
         }
     }
@@ -447,25 +512,15 @@ impl Turn {
         device: &mut Plugged,
         place: Place,
         (len, max): (usize, usize),
-        open: &Open,
+        mut open: Open,
     ) -> bool {
-        let mut count = open.count;
         loop {
             let reply = device.poll(place.1);
-            let size = match &reply {
-                InReply::Packet(bytes) => bytes.len(),
-                _ => 0,
-            };
-            let is_over = size > max;
-            let is_last = size < max || count + size >= len;
-            let has_moved = self.packet(device, place, reply, |size| match is_over {
-                true => (open.ticket, count, true),
-                false => (open.ticket, count + size, is_last),
-            });
-            count += size;
-            if !has_moved || is_over || is_last {
-                return has_moved && !is_over;
+            let has_come = self.packet(device, place, reply, open, (len, max));
+            if !has_come || self.finished.contains(&open.ticket) {
+                return has_come;
             }
+            open.count = self.counts[&open.ticket];
         }
     }
 
@@ -475,77 +530,85 @@ impl Turn {
         device: &mut Plugged,
         place: Place,
         (bytes, max): (&[u8], usize),
-        open: &Open,
+        mut open: Open,
     ) -> bool {
-        let mut count = open.count;
         loop {
-            let end = bytes.len().min(count + max);
-            let reply = device.out(place.1, &bytes[count..end]);
+            let end = bytes.len().min(open.count + max);
             let is_last = end == bytes.len();
-            let has_moved = self.acknowledge(device, place, reply, (open.ticket, end, is_last));
-            if !has_moved || is_last {
-                return has_moved;
+            let reply = device.out(place.1, &bytes[open.count..end]);
+            let has_gone = self.acknowledge(device, place, reply, open, (end, is_last));
+            if !has_gone || is_last {
+                return has_gone;
             }
-            count = end;
+            open.count = end;
         }
     }
 
-    /// The step of a reply to a poll, and whether a packet was sent.
+    /// The step of a reply to a poll, for a transfer that asks for `len` bytes in packets of `max`.
+    /// Says whether a packet was sent that is not too long.
     fn packet(
         &mut self,
         device: &mut Plugged,
         (number, address): Place,
         reply: InReply,
-        moved: impl FnOnce(usize) -> (usize, usize, bool),
+        open: Open,
+        (len, max): (usize, usize),
     ) -> bool {
         match reply {
             InReply::Packet(bytes) => {
                 self.steps.push(format!("pkt k{number} {address:02x} {}", hex(&bytes)));
-                self.note(moved(bytes.len()));
-                return true;
+                let size = bytes.len();
+                let count = open.count + if size > max { 0 } else { size };
+                self.counts.insert(open.ticket, count);
+                if size != max || count >= len {
+                    self.finished.insert(open.ticket);
+                }
+                return size <= max;
             }
             InReply::Nak => {}
-            InReply::Stall => self.fail((number, address), 32),
-            InReply::Fail(errno) => self.fail((number, address), errno),
-            InReply::Unplug => self.unplug(device, number),
+            InReply::Stall => self.fail((number, address), 32, open),
+            InReply::Fail(errno) => self.fail((number, address), errno, open),
+            InReply::Unplug => self.unplug(device, number, open),
         }
         false
     }
 
-    /// The step of a reply to a packet, and whether it was acknowledged.
+    /// The step of a reply to a packet, behind which so many bytes have gone over. Says whether it
+    /// was acknowledged.
     fn acknowledge(
         &mut self,
         device: &mut Plugged,
         (number, address): Place,
         reply: OutReply,
-        moved: (usize, usize, bool),
+        open: Open,
+        (count, is_last): (usize, bool),
     ) -> bool {
         match reply {
             OutReply::Ack => {
                 self.steps.push(format!("ack k{number} {address:02x}"));
-                self.note(moved);
+                self.counts.insert(open.ticket, count);
+                if is_last {
+                    self.finished.insert(open.ticket);
+                }
                 return true;
             }
             OutReply::Nak => {}
-            OutReply::Stall => self.fail((number, address), 32),
-            OutReply::Fail(errno) => self.fail((number, address), errno),
-            OutReply::Unplug => self.unplug(device, number),
+            OutReply::Stall => self.fail((number, address), 32, open),
+            OutReply::Fail(errno) => self.fail((number, address), errno, open),
+            OutReply::Unplug => self.unplug(device, number, open),
         }
         false
     }
 
-    fn note(&mut self, moved: (usize, usize, bool)) {
-        self.moved.retain(|it| it.0 != moved.0);
-        self.moved.push(moved);
-    }
-
-    fn fail(&mut self, (number, address): Place, errno: u16) {
+    fn fail(&mut self, (number, address): Place, errno: u16, open: Open) {
         assert!((1..PROBE).contains(&errno), "an errno of a device is from 1 to 4094");
         self.steps.push(format!("fail k{number} {address:02x} {errno}"));
+        self.finished.insert(open.ticket);
     }
 
-    fn unplug(&mut self, device: &mut Plugged, number: usize) {
+    fn unplug(&mut self, device: &mut Plugged, number: usize, open: Open) {
         device.leave();
         self.steps.push(format!("unplug k{number}"));
+        self.finished.insert(open.ticket);
     }
 }

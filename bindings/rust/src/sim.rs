@@ -13,7 +13,7 @@
 //! let bench = Bench::new();
 //! let device = Closures::new().on_poll(|_| InReply::Packet(vec![1, 2, 3]));
 //! bench.plug(Plug::new(include_bytes!("../tests/two_bulk.bin")), device);
-//! assert_eq!(bench.script().lines().count(), 13);
+//! assert!(bench.script().contains("device k0 1 2 3 1 1201"));
 //! # }
 //! ```
 
@@ -558,7 +558,9 @@ impl Socket {
     pub fn refuse(&self, call: KernelCall, errno: u16) {
         assert!((1..PROBE).contains(&errno), "an errno is from 1 to 4094");
         let step = format!("refuse k{} {} {errno}", self.number, call.word());
-        lock(&self.shared).step(&[step]);
+        let mut session = lock(&self.shared);
+        session.may_refuse(self.number);
+        session.step(&[step]);
     }
 
     /// Unplugs the device.
