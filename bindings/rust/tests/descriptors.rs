@@ -1,0 +1,112 @@
+//! The walks over descriptors, on the questions and answers that the repository's tests have.
+
+use usb_host_core::descriptors::{
+    ConfigurationDescriptor, DeviceDescriptor, EndpointDescriptor, InterfaceDescriptor,
+    TransferType,
+};
+
+const FILES: [&str; 2] = [
+    include_str!("../../../crates/test_formats/src/descriptors/examples.rt"),
+    include_str!("../../../crates/test_formats/src/descriptors/questions.rt"),
+];
+
+/// The rows of a kind, each of a question in hexadecimal digits and its answer.
+fn rows(kind: &str) -> Vec<(Vec<u8>, &'static str)> {
+    let lines = FILES.iter().flat_map(|file| file.lines());
+    let rows = lines.filter_map(|line| line.strip_prefix(kind)?.split_once(" = "));
+    rows.map(|(question, answer)| (bytes_of(question), answer)).collect()
+}
+
+fn bytes_of(digits: &str) -> Vec<u8> {
+    let pairs = digits.as_bytes().chunks_exact(2);
+    let pairs = pairs.map(|pair| std::str::from_utf8(pair).unwrap());
+    pairs.map(|pair| u8::from_str_radix(pair, 16).unwrap()).collect()
+}
+
+fn endpoint_words(endpoint: &EndpointDescriptor<'_>) -> String {
+    let kind = match endpoint.transfer_type() {
+        TransferType::Control => "control",
+        TransferType::Isochronous => "iso",
+        TransferType::Bulk => "bulk",
+        TransferType::Interrupt => "interrupt",
+    };
+    let (address, max) = (endpoint.address(), endpoint.max_packet_size());
+    format!(" ep {address:02x} {kind} {max} {}", endpoint.interval())
+}
+
+fn setting_words(setting: &InterfaceDescriptor<'_>) -> String {
+    let endpoints: String = setting.endpoints().map(|it| endpoint_words(&it)).collect();
+    let (number, alternate) = (setting.interface_number(), setting.alternate_setting());
+    let codes = (setting.class(), setting.subclass(), setting.protocol());
+    format!(" if {number}.{alternate} {:02x} {:02x} {:02x}{endpoints}", codes.0, codes.1, codes.2)
+}
+
+fn configuration_words(configuration: &ConfigurationDescriptor<'_>) -> String {
+    let settings: String = configuration
+        .interfaces()
+        .flat_map(|interface| {
+            interface.alt_settings().map(|it| setting_words(&it)).collect::<Vec<_>>()
+        })
+        .collect();
+    format!(" cfg {}{settings}", configuration.configuration_value())
+}
+
+/// The configurations behind the device descriptor, where that is valid.
+fn words(bytes: &[u8]) -> String {
+    if DeviceDescriptor::new(bytes).is_none() {
+        return "invalid".to_owned();
+    }
+    let mut rest = bytes.get(18..).unwrap_or(&[]);
+    let mut words = "desc".to_owned();
+    while let Some(configuration) = ConfigurationDescriptor::new(rest) {
+        words += &configuration_words(&configuration);
+        rest = &rest[configuration.as_bytes().len()..];
+    }
+    words
+}
+
+#[test]
+fn configurations_are_walked_as_the_rows_say() {
+    let rows = rows("all ");
+    assert!(rows.len() > 15, "the rows were found");
+    for (bytes, answer) in rows {
+        assert_eq!(words(&bytes), answer, "{bytes:02x?}");
+    }
+}
+
+#[test]
+fn a_device_descriptor_needs_its_length_and_its_type() {
+    let whole: Vec<u8> = include_bytes!("two_bulk.bin")[..18].to_vec();
+    let changed = |at: usize, value: u8| {
+        let mut bytes = whole.clone();
+        bytes[at] = value;
+        DeviceDescriptor::new(&bytes).is_some()
+    };
+    let rows = [(0, 18, true), (0, 17, false), (0, 19, true), (1, 1, true), (1, 2, false)];
+    for (at, value, is_valid) in rows {
+        assert_eq!(changed(at, value), is_valid, "{value} at {at}");
+    }
+    assert!(DeviceDescriptor::new(&whole[..17]).is_none());
+}
+
+#[test]
+fn a_configuration_needs_its_length_its_type_and_its_total() {
+    let whole: Vec<u8> = include_bytes!("two_bulk.bin")[18..].to_vec();
+    let changed = |at: usize, value: u8| {
+        let mut bytes = whole.clone();
+        bytes[at] = value;
+        ConfigurationDescriptor::new(&bytes).map(|it| it.as_bytes().len())
+    };
+    let rows = [
+        (0, 9, Some(32)),
+        (0, 8, None),
+        (1, 5, None),
+        (2, 33, None),
+        (2, 9, Some(9)),
+        (2, 8, None),
+        (3, 1, None),
+    ];
+    for (at, value, length) in rows {
+        assert_eq!(changed(at, value), length, "{value} at {at}");
+    }
+}
