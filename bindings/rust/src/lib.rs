@@ -10,7 +10,7 @@
 //! A session has its limits: 64 handles of a kind, 64 pending transfers of an endpoint, 65536 bytes
 //! in a transfer, and 2^20 bytes in a script. Beyond them a test panics.
 #![warn(missing_docs)]
-#![forbid(unsafe_code)]
+#![deny(unsafe_code)]
 
 mod answers;
 pub mod descriptors;
@@ -22,6 +22,8 @@ pub mod hotplug;
 pub mod io;
 mod lines;
 mod maybe_future;
+#[cfg(usb_core_c)]
+pub mod proved;
 mod session;
 pub mod sim;
 mod told;

@@ -110,3 +110,91 @@ fn a_configuration_needs_its_length_its_type_and_its_total() {
         assert_eq!(changed(at, value), length, "{value} at {at}");
     }
 }
+
+/// The proved walks on the same bytes as those of this crate, where the library is linked.
+#[cfg(usb_core_c)]
+mod beside_the_library {
+    use super::*;
+    use usb_host_core::proved;
+
+    fn compare_device(bytes: &[u8]) {
+        let told = proved::device(bytes);
+        let walked = DeviceDescriptor::new(bytes).map(|it| proved::Device {
+            usb_version: it.usb_version(),
+            class: it.class(),
+            subclass: it.subclass(),
+            protocol: it.protocol(),
+            max_packet_size_0: it.max_packet_size_0(),
+            vendor: it.vendor_id(),
+            product: it.product_id(),
+            version: it.device_version(),
+            configurations: it.num_configurations(),
+        });
+        assert_eq!(told, walked, "{bytes:02x?}");
+    }
+
+    fn setting_of(it: &InterfaceDescriptor<'_>) -> proved::Setting {
+        proved::Setting {
+            number: it.interface_number(),
+            alternate: it.alternate_setting(),
+            class: it.class(),
+            subclass: it.subclass(),
+            protocol: it.protocol(),
+        }
+    }
+
+    fn endpoint_of(it: &EndpointDescriptor<'_>) -> proved::Endpoint {
+        proved::Endpoint {
+            address: it.address(),
+            attributes: it.attributes(),
+            interval: it.interval(),
+            max_packet_size: it.max_packet_size(),
+        }
+    }
+
+    fn compare_configuration(bytes: &[u8]) {
+        let configuration = ConfigurationDescriptor::new(bytes);
+        let settings: Vec<_> =
+            configuration.iter().flat_map(|it| it.interface_alt_settings()).collect();
+        let walked: Vec<_> = settings.iter().map(setting_of).collect();
+        assert_eq!(proved::settings(bytes).collect::<Vec<_>>(), walked, "{bytes:02x?}");
+        for (index, setting) in settings.iter().enumerate() {
+            let walked: Vec<_> = setting.endpoints().map(|it| endpoint_of(&it)).collect();
+            let told: Vec<_> = proved::endpoints(bytes, index).collect();
+            assert_eq!(told, walked, "{bytes:02x?}");
+        }
+        assert_eq!(proved::setting(bytes, settings.len()), None);
+        assert_eq!(proved::endpoint(bytes, settings.len(), 0), None);
+        assert_eq!(proved::endpoint(bytes, usize::MAX, usize::MAX), None);
+    }
+
+    #[test]
+    fn rows_are_walked_the_same() {
+        for kind in ["all ", "cfg "] {
+            for (bytes, _) in rows(kind) {
+                compare_device(&bytes);
+                compare_configuration(bytes.get(18..).unwrap_or(&[]));
+                compare_configuration(&bytes);
+            }
+        }
+    }
+
+    #[test]
+    fn each_prefix_and_each_byte_at_each_place_are_walked_the_same() {
+        let whole = include_bytes!("two_bulk.bin");
+        for len in 0..=whole.len() {
+            compare_device(&whole[..len]);
+            compare_configuration(&whole[whole.len() - len..]);
+            compare_configuration(&whole[18..len.max(18)]);
+        }
+        let mut bytes = whole.to_vec();
+        for at in 0..bytes.len() {
+            for value in 0..=255 {
+                bytes[at] = value;
+                compare_device(&bytes);
+                compare_configuration(&bytes[18..]);
+            }
+            bytes[at] = whole[at];
+        }
+    }
+}

@@ -1,0 +1,119 @@
+//! The proved static library `usb_core_c`: its calls, as safe functions.
+//!
+//! The declarations are written by hand to fit crates/usb_core_c/src, and nothing compares the two.
+//! No export asks anything of its arguments, so nothing is tested here.
+#![allow(unsafe_code)]
+
+/// What a device descriptor tells, but for its strings (USB 2.0, table 9-8).
+#[repr(C)]
+#[derive(Clone, Copy, Debug, Default, PartialEq, Eq)]
+pub struct Device {
+    /// The version of USB, in binary-coded decimal.
+    pub usb_version: u16,
+    /// The class code.
+    pub class: u8,
+    /// The subclass code.
+    pub subclass: u8,
+    /// The protocol code.
+    pub protocol: u8,
+    /// The maximum packet size of endpoint 0, in bytes.
+    pub max_packet_size_0: u8,
+    /// The vendor's number.
+    pub vendor: u16,
+    /// The product's number.
+    pub product: u16,
+    /// The version of the device, in binary-coded decimal.
+    pub version: u16,
+    /// How many configurations there are.
+    pub configurations: u8,
+}
+
+/// What an alternate setting of an interface tells, but for its string (USB 2.0, table 9-12).
+#[repr(C)]
+#[derive(Clone, Copy, Debug, Default, PartialEq, Eq)]
+pub struct Setting {
+    /// The interface's number.
+    pub number: u8,
+    /// The setting's number.
+    pub alternate: u8,
+    /// The class code.
+    pub class: u8,
+    /// The subclass code.
+    pub subclass: u8,
+    /// The protocol code.
+    pub protocol: u8,
+}
+
+/// What an endpoint tells (USB 2.0, table 9-13).
+#[repr(C)]
+#[derive(Clone, Copy, Debug, Default, PartialEq, Eq)]
+pub struct Endpoint {
+    /// Its address: a number, and the direction as bit 7.
+    pub address: u8,
+    /// Its attributes, as bits.
+    pub attributes: u8,
+    /// Its interval, as the descriptor has it.
+    pub interval: u8,
+    /// Its maximum packet size, in bytes.
+    pub max_packet_size: usize,
+}
+
+unsafe extern "C" {
+    fn usb_core_device(bytes: *const u8, len: usize, out: *mut Device) -> bool;
+    fn usb_core_count_settings(bytes: *const u8, len: usize) -> usize;
+    fn usb_core_setting(bytes: *const u8, len: usize, index: usize, out: *mut Setting) -> bool;
+    fn usb_core_endpoint(
+        bytes: *const u8,
+        len: usize,
+        index: usize,
+        number: usize,
+        out: *mut Endpoint,
+    ) -> bool;
+}
+
+/// The device descriptor at the front of these bytes.
+#[must_use]
+pub fn device(bytes: &[u8]) -> Option<Device> {
+    let mut out = Device::default();
+    // SAFETY: pointer and length are those of one slice, and `out` is a whole struct of the same
+    // layout. Both are lent for the call alone.
+    let is_there = unsafe { usb_core_device(bytes.as_ptr(), bytes.len(), &raw mut out) };
+    is_there.then_some(out)
+}
+
+/// How many settings the configuration at the front of these bytes has; 0 where none stands there.
+#[must_use]
+pub fn count_settings(bytes: &[u8]) -> usize {
+    // SAFETY: pointer and length are those of one slice, which is lent for the call alone.
+    unsafe { usb_core_count_settings(bytes.as_ptr(), bytes.len()) }
+}
+
+/// The setting with this index of the configuration at the front of these bytes.
+#[must_use]
+pub fn setting(bytes: &[u8], index: usize) -> Option<Setting> {
+    let mut out = Setting::default();
+    // SAFETY: as in `device`.
+    let is_there = unsafe { usb_core_setting(bytes.as_ptr(), bytes.len(), index, &raw mut out) };
+    is_there.then_some(out)
+}
+
+/// The endpoint with this number of the setting with this index.
+#[must_use]
+pub fn endpoint(bytes: &[u8], index: usize, number: usize) -> Option<Endpoint> {
+    let mut out = Endpoint::default();
+    // SAFETY: as in `device`.
+    let is_there =
+        unsafe { usb_core_endpoint(bytes.as_ptr(), bytes.len(), index, number, &raw mut out) };
+    is_there.then_some(out)
+}
+
+/// The settings of the configuration at the front of these bytes, in the order of their
+/// descriptors.
+pub fn settings(bytes: &[u8]) -> impl Iterator<Item = Setting> + '_ {
+    (0..count_settings(bytes)).filter_map(move |index| setting(bytes, index))
+}
+
+/// The endpoints of the setting with this index, in the order of their descriptors.
+pub fn endpoints(bytes: &[u8], index: usize) -> impl Iterator<Item = Endpoint> + '_ {
+    (0..).map_while(move |number| endpoint(bytes, index, number))
+}
