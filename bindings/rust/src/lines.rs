@@ -403,6 +403,7 @@ impl Session {
     /// `poll e`, behind what the devices do now and the reaps of what is finished.
     pub(crate) fn poll(&mut self, line: Line) -> Option<Done> {
         self.go_on();
+        self.reap((line.device, line.address));
         done_of(&self.call(&format!("poll e{}", line.name)))
     }
 
@@ -454,10 +455,9 @@ impl Session {
     pub(crate) fn close_endpoint(&mut self, letter: char, line: Line) {
         self.discover();
         let place = (line.device, line.address);
-        let pending = self.bound(place);
         self.close(letter, line.name);
         self.streams.remove(&place);
-        self.reap(pending);
+        self.reap(place);
     }
 }
 

@@ -59,6 +59,7 @@ struct Open {
 }
 
 /// What a script would be answered.
+#[derive(Default)]
 struct Look {
     /// The answer of the line behind the script, where that is a call.
     answer: String,
@@ -69,6 +70,8 @@ struct Look {
     /// The places of the tickets that the line hands in.
     handed_in: Vec<Place>,
     open: Vec<Open>,
+    /// The tickets that nobody has taken.
+    untaken: BTreeSet<usize>,
 }
 
 /// What the devices do in one turn.
@@ -95,8 +98,10 @@ pub(crate) struct Session {
     pub(crate) names: BTreeMap<char, Names>,
     tickets: Vec<Ticket>,
     undiscovered: Vec<Place>,
-    /// No ticket before this one is unfinished.
-    settled: usize,
+    /// The tickets that nobody had taken at the last answer, and those that were handed in since.
+    untaken: BTreeSet<usize>,
+    /// The tickets that a step has given back.
+    reaped: BTreeSet<usize>,
     /// How many tickets may be unfinished at an endpoint.
     bounds: BTreeMap<Place, usize>,
     pub(crate) streams: BTreeMap<Place, Stream>,
@@ -136,7 +141,8 @@ impl Session {
             names: BTreeMap::new(),
             tickets: Vec::new(),
             undiscovered: Vec::new(),
-            settled: 0,
+            untaken: BTreeSet::new(),
+            reaped: BTreeSet::new(),
             bounds: BTreeMap::new(),
             streams: BTreeMap::new(),
             open: Some(Vec::new()),
@@ -201,6 +207,7 @@ impl Session {
         self.say(line);
         self.open = open;
         *self.bounds.entry(ticket.place).or_default() += 1;
+        self.untaken.insert(self.tickets.len());
         self.tickets.push(ticket);
     }
 
@@ -298,13 +305,25 @@ impl Session {
             }
             self.step(&turn.steps);
             self.expected = turn.counts;
-            self.reap(turn.finished.len());
         }
     }
 
-    /// Gives back so many finished transfers.
-    pub(crate) fn reap(&mut self, count: usize) {
-        self.step(&vec!["reap".to_owned(); count]);
+    /// Gives back what is finished at an endpoint, as the event loop of a system does by itself.
+    pub(crate) fn reap(&mut self, place: Place) {
+        self.discover();
+        let open: Vec<usize> = self.open.iter().flatten().map(|open| open.ticket).collect();
+        let tickets: Vec<usize> = self
+            .untaken
+            .iter()
+            .copied()
+            .filter(|it| self.tickets[*it].place == place && !open.contains(it))
+            .filter(|it| !self.reaped.contains(it))
+            .collect();
+        let steps: Vec<String> = tickets.iter().map(|it| format!("reap {it}")).collect();
+        let known = self.open.take();
+        self.step(&steps);
+        self.open = known;
+        self.reaped.extend(tickets);
     }
 
     /// How many transfers of an endpoint may be unfinished.
@@ -350,8 +369,9 @@ impl Session {
             line.clone_into(&mut answer);
             assert!(answer != "condition", "the session can't make the call {text:?}: a limit");
         }
-        let (handed_in, open) = self.read_fates(lines);
-        Look { answer, known: self.tickets.len(), behind, handed_in, open }
+        let mut look = Look { answer, behind, known: self.tickets.len(), ..Look::default() };
+        self.read_fates(lines, &mut look);
+        look
     }
 
     /// Looks at the answers of the calls that are to be answered `ok`.
@@ -363,28 +383,31 @@ impl Session {
         self.unheard = 0;
     }
 
-    /// The places of the tickets that are new, and which tickets are unfinished.
-    fn read_fates(&mut self, lines: std::str::Lines<'_>) -> (Vec<Place>, Vec<Open>) {
-        let (mut handed_in, mut open) = (Vec::new(), Vec::new());
+    /// Reads which tickets are new, which are unfinished and which nobody has taken. A ticket that
+    /// was taken stays so, and is not looked at again.
+    fn read_fates(&self, lines: std::str::Lines<'_>, look: &mut Look) {
         let unfinished = format!("unknown:{PROBE}");
-        for (ticket, line) in lines.enumerate().skip(self.settled) {
+        let first = self.untaken.first().copied().unwrap_or(self.tickets.len());
+        for (ticket, line) in lines.enumerate().skip(first) {
             let words: Vec<&str> = line.split(' ').collect();
-            let &["ticket", _, device, address, status, count, _] = &words[..] else {
+            let &["ticket", _, device, address, status, count, end] = &words[..] else {
                 panic!("{line:?} is no fate of a transfer");
             };
             let count = number(count);
             if ticket >= self.tickets.len() {
                 let address = u8::from_str_radix(address, 16).expect("an address");
-                handed_in.push((number(&device[1..]), address));
+                look.handed_in.push((number(&device[1..]), address));
             }
             if let Some(&expected) = self.expected.get(&ticket) {
                 assert_eq!(expected, count, "ticket {ticket} was reckoned otherwise");
             }
             if status == unfinished {
-                open.push(Open { ticket, count });
+                look.open.push(Open { ticket, count });
+            }
+            if end != "taken" {
+                look.untaken.insert(ticket);
             }
         }
-        (handed_in, open)
     }
 
     /// Adds a line that was looked at, and gives its answer.
@@ -400,7 +423,7 @@ impl Session {
     /// Takes over which tickets are unfinished.
     fn settle(&mut self, look: &Look) {
         self.expected.clear();
-        self.settled = look.open.first().map_or(self.tickets.len(), |open| open.ticket);
+        self.untaken.clone_from(&look.untaken);
         self.bounds.clear();
         for open in &look.open {
             if let Some(ticket) = self.tickets.get(open.ticket) {

@@ -365,6 +365,34 @@ fn an_endpoint_can_be_opened_again_behind_its_drop() {
 }
 
 #[test]
+fn what_was_finished_and_not_taken_does_not_hold_an_endpoint() {
+    let (bench, _, interface) = claimed(Replies::new().packet(0x81, &[1]).packet(0x81, &[2]));
+    let mut input = interface.endpoint::<Bulk, In>(0x81).unwrap();
+    (0..3).for_each(|_| input.submit(input.allocate(64)));
+    assert_eq!(input.wait_next_complete(SECOND).unwrap().buffer[..], [1]);
+    drop(input);
+    let reader = interface.endpoint::<Bulk, In>(0x81).unwrap().reader(64).with_num_transfers(4);
+    drop(reader);
+    assert_eq!(interface.endpoint::<Bulk, In>(0x81).unwrap().pending(), 0);
+    let ends: Vec<_> =
+        bench.fates().iter().map(|line| line.rsplit(' ').next().unwrap().to_owned()).collect();
+    assert_eq!(ends, ["taken", "reclaimed", "reclaimed", "reclaimed", "reclaimed", "reclaimed"]);
+}
+
+#[test]
+fn a_poll_finds_what_an_earlier_wait_had_finished() {
+    let (_bench, _, interface) = claimed(Replies::new().packet(0x81, &[1]).packet(0x81, &[2]));
+    let mut input = interface.endpoint::<Bulk, In>(0x81).unwrap();
+    (0..2).for_each(|_| input.submit(input.allocate(64)));
+    assert_eq!(input.wait_next_complete(SECOND).unwrap().buffer[..], [1]);
+    let mut context = Context::from_waker(Waker::noop());
+    let Poll::Ready(done) = input.poll_next_complete(&mut context) else {
+        panic!("the second packet has come");
+    };
+    assert_eq!(done.buffer[..], [2]);
+}
+
+#[test]
 fn futures_are_ready_once_the_device_has_answered() {
     let (_bench, _, interface) = claimed(Replies::new().nak(0x81).packet(0x81, &[4]));
     let mut context = Context::from_waker(Waker::noop());
