@@ -4,6 +4,22 @@
 //! No export asks anything of its arguments, so nothing is tested here.
 #![allow(unsafe_code)]
 
+use crate::answers::Answers;
+
+/// What the call for a script came to, as the library tells it.
+#[repr(C)]
+#[derive(Clone, Copy, Debug, Default, PartialEq, Eq)]
+struct Told {
+    status: u8,
+    line: u32,
+    len: usize,
+    calls: u32,
+    tickets: u64,
+    taken: u64,
+    dropped: u64,
+    reclaimed: u64,
+}
+
 /// What a device descriptor tells, but for its strings (USB 2.0, table 9-8).
 #[repr(C)]
 #[derive(Clone, Copy, Debug, Default, PartialEq, Eq)]
@@ -59,6 +75,13 @@ pub struct Endpoint {
 }
 
 unsafe extern "C" {
+    fn usb_core_answer(
+        script: *const u8,
+        script_len: usize,
+        out: *mut u8,
+        out_len: usize,
+        told: *mut Told,
+    );
     fn usb_core_device(bytes: *const u8, len: usize, out: *mut Device) -> bool;
     fn usb_core_count_settings(bytes: *const u8, len: usize) -> usize;
     fn usb_core_setting(bytes: *const u8, len: usize, index: usize, out: *mut Setting) -> bool;
@@ -69,6 +92,52 @@ unsafe extern "C" {
         number: usize,
         out: *mut Endpoint,
     ) -> bool;
+}
+
+/// The library as what answers scripts, in this process.
+#[derive(Debug, Clone, Default)]
+pub struct Library {
+    /// Where the library writes.
+    room: Vec<u8>,
+}
+
+impl Library {
+    /// The library that is linked.
+    #[must_use]
+    pub fn new() -> Library {
+        Library { room: vec![0; 1 << 16] }
+    }
+
+    fn ask(&mut self, script: &[u8]) -> Told {
+        let (out, mut told) = (&mut self.room, Told::default());
+        // SAFETY: pointers and lengths are those of two slices, one of which may be written to, and
+        // `told` is a whole struct of the same layout. All are lent for the call alone.
+        unsafe {
+            usb_core_answer(
+                script.as_ptr(),
+                script.len(),
+                out.as_mut_ptr(),
+                out.len(),
+                &raw mut told,
+            );
+        }
+        told
+    }
+}
+
+impl Answers for Library {
+    fn answer(&mut self, script: &[u8]) -> Result<Vec<u8>, String> {
+        loop {
+            let told = self.ask(script);
+            match told.status {
+                0 => return Ok(self.room[..told.len].to_vec()),
+                3 => return Err(format!("malformed line {}", told.line)),
+                4 => return Err("script too long".to_owned()),
+                6 => self.room.resize(2 * told.len, 0),
+                _ => return Err("out of memory".to_owned()),
+            }
+        }
+    }
 }
 
 /// The device descriptor at the front of these bytes.

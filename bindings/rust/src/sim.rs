@@ -434,9 +434,22 @@ pub(crate) fn current() -> Result<Shared, Error> {
     })
 }
 
-/// Whether scripts can be answered here: whether `NUSB_SIM` names the program that does.
+/// What answers scripts: the program that the environment variable `NUSB_SIM` names, else the
+/// static library, where it is linked.
+fn default_answers() -> Option<Box<dyn Answers>> {
+    match Program::from_environment() {
+        Some(program) => Some(Box::new(program)),
+        #[cfg(usb_core_c)]
+        None => Some(Box::new(crate::proved::Library::new())),
+        #[cfg(not(usb_core_c))]
+        None => None,
+    }
+}
+
+/// Whether scripts can be answered here: whether the static library is linked, or `NUSB_SIM` names
+/// the program that does.
 pub fn has_answers() -> bool {
-    Program::from_environment().is_some()
+    default_answers().is_some()
 }
 
 /// The simulated devices that [`list_devices`][crate::list_devices] finds on this thread, and the
@@ -447,16 +460,21 @@ pub struct Bench {
 
 impl Bench {
     /// A bench without devices, for this thread. Its answers come from the program that the
-    /// environment variable `NUSB_SIM` names. Panics where it names none.
+    /// environment variable `NUSB_SIM` names, else from the static library. Panics where there is
+    /// neither.
     #[allow(clippy::new_without_default)]
     pub fn new() -> Bench {
-        let program = Program::from_environment();
-        Bench::with_answers(program.expect("NUSB_SIM names the program that answers scripts"))
+        let answers = default_answers();
+        Bench::of(answers.expect("NUSB_SIM names a program, or the static library is linked"))
     }
 
     /// A bench whose answers come from elsewhere. Panics where this thread has one already.
     pub fn with_answers(answers: impl Answers + 'static) -> Bench {
-        let shared = Arc::new(Mutex::new(Session::new(Box::new(answers))));
+        Bench::of(Box::new(answers))
+    }
+
+    fn of(answers: Box<dyn Answers>) -> Bench {
+        let shared = Arc::new(Mutex::new(Session::new(answers)));
         CURRENT.with_borrow_mut(|current| {
             assert!(current.is_none(), "this thread has a bench already");
             *current = Some(shared.clone());

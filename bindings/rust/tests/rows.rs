@@ -50,3 +50,44 @@ fn the_program_answers_as_worked_out() {
         compare(&mut program);
     }
 }
+
+#[cfg(usb_core_c)]
+#[test]
+fn the_library_answers_as_worked_out() {
+    compare(&mut usb_host_core::proved::Library::new());
+}
+
+/// The bench asks for its answers with each script anew. So what was answered has to stay.
+#[cfg(usb_core_c)]
+#[test]
+fn the_answers_of_a_beginning_are_the_beginning_of_the_answers() {
+    let mut library = usb_host_core::proved::Library::new();
+    let mut answer =
+        |script: &str| String::from_utf8(library.answer(script.as_bytes()).unwrap()).unwrap();
+    for (name, script, whole) in rows() {
+        let mut beginning = String::new();
+        for line in script.lines() {
+            beginning += &format!("{line}\n");
+            let answers = answer(&beginning);
+            let calls = answers.lines().filter(|line| !line.starts_with("ticket "));
+            assert!(calls.zip(whole.lines()).all(|(one, other)| one == other), "{name}: {line}");
+        }
+    }
+}
+
+#[cfg(usb_core_c)]
+#[test]
+fn the_library_tells_why_a_script_is_not_answered() {
+    let mut library = usb_host_core::proved::Library::new();
+    let long = vec![b'\n'; (1 << 20) + 1];
+    let rows: [(&[u8], &str); 3] = [
+        (b"now\npoll\n", "malformed line 2"),
+        (b"\xff", "malformed line 1"),
+        (&long, "script too long"),
+    ];
+    for (script, error) in rows {
+        assert_eq!(library.answer(script), Err(error.to_owned()));
+    }
+    assert_eq!(library.answer(b""), Ok(Vec::new()));
+    assert_eq!(library.answer(&long[1..]), Ok(Vec::new()));
+}

@@ -1,2 +1,4 @@
 pub mod Walks
 pub mod Fields
+pub mod Answered
+pub mod Gatherings

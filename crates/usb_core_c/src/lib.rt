@@ -3,3 +3,4 @@
 #![tactic(auto)]
 
 pub mod descriptors;
+pub mod session;
