@@ -1,5 +1,5 @@
 -- What a whole script comes to, as a caller in C sees it.
-use Rattle.std.specs.Prelude.{ℕ, ◌≡◌, ◌<◌, ◌⊎◌, List, length, take, Result, Ok, Err}
+use Rattle.std.specs.Prelude.{ℕ, ◌≡◌, ◌<◌, ◌⊎◌, List, length, take, Ok, Err}
 use Rattle.usb_script_lines.specs.declared.item.Item.{Item}
 use Rattle.usb_script.specs.declared.error.SessionError.{SessionError}
 use Rattle.usb_script.specs.declared.error.SessionError.TheVariants.{Malformed, TooLong, ReadFault, WriteFault, Memory}

@@ -96,11 +96,7 @@ impl Sink for Gathered {
 }
 
 /// Answers a script, and gathers the answers.
-fn answer(
-    alloc: Global,
-    script: &[u8],
-    sink: &mut Gathered,
-) -> Result<Summary, SessionError>
+fn answer(alloc: Global, script: &[u8], sink: &mut Gathered) -> Result<Summary, SessionError>
     requires empty { sink.old.bytes ≡ [] }
     ensures ok { IfOk result (IsAnswer script.now sink.new.bytes) }
     ensures err { IfErr result (IsRefusal script.now) }
@@ -163,12 +159,7 @@ fn hand_over(summary: Summary, answers: &[u8], out: &mut [u8]) -> Told
 /// `out`. Where there is no room for all of them nothing is written, and `told` has the length that
 /// they need.
 #[unsafe(no_mangle)]
-pub extern "C" fn usb_core_answer(
-    alloc: Global,
-    script: &[u8],
-    out: &mut [u8],
-    told: &mut Told,
-)
+pub extern "C" fn usb_core_answer(alloc: Global, script: &[u8], out: &mut [u8], told: &mut Told)
     ensures whole { told.new.status ≡ 0 → IsWhole script.now out.new told.new }
     ensures malformed { told.new.status ≡ 3 → script_of script.now ≡ Err (Malformed told.new.line) }
     ensures long { told.new.status ≡ 4 → script_of script.now ≡ Err TooLong }
