@@ -434,16 +434,17 @@ pub(crate) fn current() -> Result<Shared, Error> {
     })
 }
 
-/// What answers scripts: the program that the environment variable `NUSB_SIM` names, else the
-/// static library, where it is linked.
+/// What answers scripts: the static library, where it is linked, else the program that the
+/// environment variable `NUSB_SIM` names.
+#[cfg(usb_core_c)]
 fn default_answers() -> Option<Box<dyn Answers>> {
-    match Program::from_environment() {
-        Some(program) => Some(Box::new(program)),
-        #[cfg(usb_core_c)]
-        None => Some(Box::new(crate::proved::Library::new())),
-        #[cfg(not(usb_core_c))]
-        None => None,
-    }
+    Some(Box::new(crate::proved::Library::new()))
+}
+
+/// What answers scripts: the program that the environment variable `NUSB_SIM` names.
+#[cfg(not(usb_core_c))]
+fn default_answers() -> Option<Box<dyn Answers>> {
+    Program::from_environment().map(|program| Box::new(program) as Box<dyn Answers>)
 }
 
 /// Whether scripts can be answered here: whether the static library is linked, or `NUSB_SIM` names
@@ -459,9 +460,9 @@ pub struct Bench {
 }
 
 impl Bench {
-    /// A bench without devices, for this thread. Its answers come from the program that the
-    /// environment variable `NUSB_SIM` names, else from the static library. Panics where there is
-    /// neither.
+    /// A bench without devices, for this thread. Its answers come from the static library, where it
+    /// is linked, else from the program that the environment variable `NUSB_SIM` names. Panics
+    /// where there is neither.
     #[allow(clippy::new_without_default)]
     pub fn new() -> Bench {
         let answers = default_answers();
