@@ -1,0 +1,13 @@
+pub mod BlockLemmas
+pub mod MachineLemmas
+pub mod TicketLemmas
+pub mod StandingLemmas
+pub mod QuietLemmas
+pub mod FrontLemmas
+pub mod WeightLemmas
+pub mod ActLemmas
+pub mod DiskBusLemmas
+pub mod DiskHandleLemmas
+pub mod FallLemmas
+pub mod TurnLemmas
+pub mod SubmitLemmas

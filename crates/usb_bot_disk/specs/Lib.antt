@@ -1,0 +1,9 @@
+pub mod Blocks
+pub mod Machine
+pub mod MachineFacts
+pub mod Standing
+pub mod DiskState
+pub mod DiskTurns
+pub mod DiskCalls
+pub mod DiskLends
+pub mod DiskBusFacts

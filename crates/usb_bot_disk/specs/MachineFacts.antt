@@ -1,0 +1,22 @@
+-- What is true of all simulated disks.
+use Rattle.std.specs.Prelude.{ℕ, ◌≤◌, ◌<◌, ◌^◌, List, length}
+use Rattle.usb_bot.specs.declared.wrapper.Command.{Command}
+use Rattle.usb_bot.specs.Wrappers.{data_length}
+use Rattle.usb_bot_disk.specs.declared.stage.Stage.{Stage}
+use Rattle.usb_bot_disk.specs.declared.stage.Stage.TheVariants.{Listening, Taking, Sending, Refusing, Answering}
+use Rattle.usb_bot_disk.specs.Machine.{end_of}
+
+-- a command whose data are sent: no more is left than was asked for, what is sent is there, and the
+-- count is one of a READ(10)
+pub record IsSent (disk : List ℕ) (c : Command) (left : ℕ) : Type 0 where
+  pub asked : left ≤ data_length c
+  pub within : end_of c ≤ length disk
+  pub count : c.count < 2 ^ 16
+
+-- no more is left than was asked for
+abbrev pub IsSound : List ℕ → Stage → Type 0
+IsSound disk Listening = Unit {0}
+IsSound disk (Taking c left) = left ≤ data_length c
+IsSound disk (Sending c left) = IsSent disk c left
+IsSound disk (Refusing c) = Unit {0}
+IsSound disk (Answering s gone) = gone ≤ 13
