@@ -32,12 +32,6 @@ impl From<BotError> for Fault {
 }
 
 /// A partition: so many blocks of a disk, from one on. Its own count from 0. `close` spends it.
-///
-/// ```
-/// let mut partition = Partition::new(BotClient::new(out, inp), 2048, 65536);
-/// let block = partition.read(host, 0);
-/// partition.close(host);
-/// ```
 pub struct Partition {
     client: BotClient,
     first: u32,

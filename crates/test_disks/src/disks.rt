@@ -122,9 +122,10 @@ fn keeps_blocks(bus: &mut DiskBus, client: &mut BotClient) -> bool
 
 /// Whether the bytes of the disk are those of the two blocks that were written, behind zeros.
 fn is_written(bytes: &[u8]) -> bool {
-    bytes.len() == 2048
-        && bytes[..1024].iter().all(|b| *b == 0)
-        && bytes[1024..].iter().all(|b| *b == 0x5a)
+    let half = bytes.len() / 2;
+    let zeros = bytes[..half].iter().all(|b| *b == 0);
+    let written = bytes[half..].iter().all(|b| *b == 0x5a);
+    half == 1024 && zeros && written
 }
 
 /// Whether a client finds a disk as it is said to be.

@@ -13,13 +13,7 @@ use usb_xfer::{Bulk, In, Out};
 /// Bulk-Only Transport. A command is three blocking transfers: a wrapper, data and a status. Tags
 /// count the commands from 0 on.
 ///
-/// It is never dropped: `close` spends it.
-///
-/// ```
-/// let mut disk = BotClient::new(out, inp);
-/// let block = disk.read(host, 7, 1);
-/// disk.close(host);
-/// ```
+/// It is never dropped: `close` spends it. The crate `example_disk` has a driver over it.
 pub struct BotClient {
     pub(crate) out: Endpoint<Bulk, Out>,
     pub(crate) inp: Endpoint<Bulk, In>,
