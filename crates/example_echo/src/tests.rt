@@ -56,7 +56,7 @@ fn what_does_not_come_is_cancelled(rt: HostRuntime) -> Result<(), test::Fail> {
 fn is_read(bench: SimBench) -> Result<bool, Fail<Error>> {
     let mut host = bench.host()?;
     let read = read_packet(&mut host)?;
-    let is_there = matches!(read, Some(done) if done.buffer.as_slice() == [1, 2, 3].as_slice());
+    let is_there = matches!(&read, Some(done) if done.buffer.as_slice() == [1, 2, 3].as_slice());
     Ok(is_there && host.endpoint_count() == 0)
 }
 
