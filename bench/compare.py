@@ -11,6 +11,7 @@ they wait, in another reads of readers, in a third transfers of endpoints; in so
 closes, kernel drivers, configurations and alternate settings. In some, deadlines of transfers pass by steps of the timer, and in
 some while a control transfer is waited for. In about a third of the scripts no refusal is armed. One in ten has a malformed line.
 Some scripts print the descriptors of damaged devices, and in some more than 1,024 tickets are unreaped.
+Then as many traces are checked by both, in most of which one line was changed, left out, doubled or moved (traces.py).
 At the end stand the kinds of lines and steps of docs/SCRIPT.md, the answers and the statuses that didn't occur, and of the
 calls about owners, of control transfers and of reads each answer that didn't: those that a script can have without an armed refusal are
 counted there alone. Of `halt r` they say whether the read before it had failed. Of deadlines they say what discarded a transfer that was due.
@@ -21,6 +22,8 @@ import random
 import re
 import subprocess
 import sys
+
+import traces
 
 LANGUAGE = pathlib.Path(__file__).parent.parent / "docs/SCRIPT.md"
 ANSWERS = [
@@ -948,8 +951,8 @@ def script_of(r, lines, call, most, steps=steps):
     return ("\n".join(lines) + r.choice(["", "\n", "\r\n"])).encode()
 
 
-def answer(program, text):
-    ran = subprocess.run([program], input=text, capture_output=True, timeout=120)
+def answer(program, text, *words):
+    ran = subprocess.run([program, *words], input=text, capture_output=True, timeout=120)
     return ran.returncode, ran.stdout, ran.stderr
 
 
@@ -1048,6 +1051,15 @@ def show_difference(text, one, two):
         print(f"  {a.decode()}\n  {b.decode()}")
 
 
+def compare_traces(program, other, count, first):
+    seen, difference = traces.compare(answer, program, other, count, first)
+    if difference:
+        seed, text, one, two = difference
+        show_difference(text, one, two)
+        sys.exit(f"trace {seed}: they differ")
+    print(f"{count} traces: the same ({', '.join(f'{kind} {number}' for kind, number in sorted(seen.items()))})")
+
+
 def main():
     if len(sys.argv) not in (3, 4, 5):
         sys.exit(__doc__)
@@ -1070,6 +1082,7 @@ def main():
     print(f"{count} scripts, {lines} lines of answers: the same")
     missing = [kind if isinstance(kind, str) else f"{kind[0]}: {kind[1]}" for kind in all_kinds() if not seen[kind]]
     print(f"the scripts that were answered have none of: {', '.join(missing)}" if missing else "each kind of line, step, answer and status occurred")
+    compare_traces(program, other, count, first)
 
 
 if __name__ == "__main__":

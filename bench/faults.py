@@ -12,13 +12,15 @@ import tempfile
 import threading
 from dataclasses import dataclass
 
-USAGE = "usage: nusb_sim [session|generate N|live N]\n"
+USAGE = "usage: nusb_sim [session|generate N|live N|check]\n"
 MALFORMED = "nusb_sim: malformed line {}\n"
 TOO_LONG = "nusb_sim: script too long\n"
 READ_FAULT = "nusb_sim: read fault\n"
 WRITE_FAULT = "nusb_sim: write fault\n"
 
 MOST = 1 << 20
+MOST_TRACE = 1 << 24
+TRACE = b"nusb-trace 1\nend\n"
 POLL = b"poll e0\n"  # answered by 10 bytes, as e0 isn't open
 MANY = POLL * (MOST // 10 + 1)  # answered by more than 2^20 bytes
 OK = b"condition\n"
@@ -61,6 +63,13 @@ CASES = [
     unknown("live", "1", "1"),
     Case("a generated script", 0, "", GENERATED, words=("generate", "1")),
     Case("a generated script and a full device", 6, WRITE_FAULT, words=("generate", "1"), into="full"),
+    Case("a check", 0, "", b"yes\n", words=("check",), script=TRACE),
+    Case("a check of no text", 3, MALFORMED.format(1), words=("check",), script=b""),
+    Case("a check of the longest text", 3, MALFORMED.format(3), words=("check",), script=TRACE + b" " * (MOST_TRACE - len(TRACE))),
+    Case("a check of one byte more", 4, TOO_LONG, words=("check",), script=TRACE + b" " * (MOST_TRACE + 1 - len(TRACE))),
+    Case("a check of a folder", 5, READ_FAULT, words=("check",), script=None),
+    Case("a check and a full device", 6, WRITE_FAULT, words=("check",), script=TRACE, into="full"),
+    unknown("check", "1"),
     unknown("generate"),
     unknown("generate", "0"),
     unknown("generate", "2001"),

@@ -1,6 +1,6 @@
 //! The session of `nusb_sim` as plain Rust, by the rules of docs/SCRIPT.md: what the proved program
 //! is timed against and compared with. Beside it the words `generate N`, and `live N` by std's threads,
-//! lock and channels. It has no status 7: where memory is wanting it aborts.
+//! lock and channels, and `check`. It has no status 7: where memory is wanting it aborts.
 
 mod answer;
 mod client;
@@ -19,6 +19,7 @@ mod refusal;
 mod script;
 mod session;
 mod text;
+mod trace;
 mod tree;
 mod udev;
 mod writer;
@@ -33,6 +34,7 @@ use std::process::ExitCode;
 use text::{Show, Text};
 
 const MOST_BYTES: u64 = 1 << 20;
+const MOST_TRACE_BYTES: u64 = 1 << 24;
 const BUFFER_BYTES: usize = 1 << 16;
 
 const MOST_TRANSFERS: u64 = 1000;
@@ -45,6 +47,8 @@ enum Task {
     Generate(u32),
     /// So many transfers between two threads.
     Live(u32),
+    /// A trace, which is checked.
+    Check,
 }
 
 /// A number from 1 to the most.
@@ -61,15 +65,17 @@ fn read_words() -> Result<Task, Fault> {
         [word] if word == "session" => Ok(Task::Session),
         [word, count] if word == "generate" => count_of(count, MOST_MESSAGES).map(Task::Generate),
         [word, count] if word == "live" => count_of(count, MOST_TRANSFERS).map(Task::Live),
+        [word] if word == "check" => Ok(Task::Check),
         _ => Err(Fault::Usage),
     }
 }
 
-fn read_script() -> Result<Vec<u8>, Fault> {
+/// All that is read, which is too long where it has more bytes than the most.
+fn read_text(most: u64) -> Result<Vec<u8>, Fault> {
     let mut text = Vec::new();
-    let mut source = io::stdin().lock().take(MOST_BYTES + 1);
+    let mut source = io::stdin().lock().take(most + 1);
     source.read_to_end(&mut text).map_err(|_| Fault::Read)?;
-    if text.len() as u64 > MOST_BYTES {
+    if text.len() as u64 > most {
         return Err(Fault::TooLong);
     }
     Ok(text)
@@ -97,7 +103,7 @@ fn write_answers(script: Script, out: &mut impl Write) -> io::Result<()> {
 }
 
 fn run_session() -> Result<(), Fault> {
-    let script = Script::parse(&read_script()?)?;
+    let script = Script::parse(&read_text(MOST_BYTES)?)?;
     let mut out = BufWriter::with_capacity(BUFFER_BYTES, io::stdout().lock());
     write_answers(script, &mut out).map_err(|_| Fault::Write)
 }
@@ -117,6 +123,7 @@ fn run() -> Result<(), Fault> {
         Task::Session => run_session(),
         Task::Generate(wanted) => write_run(&generated::run(wanted)),
         Task::Live(wanted) => write_run(&live::run(wanted)),
+        Task::Check => write_run(&trace::check(&read_text(MOST_TRACE_BYTES)?)?),
     }
 }
 

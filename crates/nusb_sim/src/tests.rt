@@ -1,5 +1,6 @@
 //! Whole scripts: what the program writes, its status and its line on standard error.
 
+mod checks;
 mod clients;
 mod controls;
 mod crowded;
@@ -315,7 +316,7 @@ fn tells_why_nothing_was_answered(rt: HostRuntime) -> Result<(), Fail> {
         let wanted = (*status, *output, *report);
         expect_run(&rt, rt.alloc(), name, &[], script.as_bytes(), wanted)?;
     }
-    let wanted = (2, "", "usage: nusb_sim [session|generate N|live N]\n");
+    let wanted = (2, "", "usage: nusb_sim [session|generate N|live N|check]\n");
     expect_run(&rt, rt.alloc(), "an unknown word", &["--help"], b"", wanted)
 }
 

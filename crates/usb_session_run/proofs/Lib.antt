@@ -1,3 +1,4 @@
+pub mod CheckLemmas
 pub mod Exchanges
 pub mod WorkedExchanges
 pub mod LiveLemmas

@@ -21,7 +21,7 @@ long_is_refused : (bytes : List ℕ) → 1048576 < length bytes → script_of by
 unfolding script_of
 long_is_refused bytes long = grind (arith, nat_tests)
 
-took_of_known : (old new : Option (List ℕ)) (bytes taken : List ℕ) → old ≡ Some bytes → Consumes old new taken → length taken ≤ length bytes
+pub took_of_known : (old new : Option (List ℕ)) (bytes taken : List ℕ) → old ≡ Some bytes → Consumes old new taken → length taken ≤ length bytes
 took_of_known None new bytes taken e t = cc
 took_of_known (Some xs) None bytes taken e t = absurd t
 took_of_known (Some xs) (Some ys) bytes taken e t =
@@ -29,7 +29,7 @@ took_of_known (Some xs) (Some ys) bytes taken e t =
     let whole : length xs ≡ length taken + length ys = ap length t ∙ length-append taken ys in
     let long : length xs ≡ length bytes = ap length same in omega arith
 
-whole_of_known : (old new : Option (List ℕ)) (bytes read : List ℕ) → old ≡ Some bytes → ReadWhole old new read → bytes ≡ read
+pub whole_of_known : (old new : Option (List ℕ)) (bytes read : List ℕ) → old ≡ Some bytes → ReadWhole old new read → bytes ≡ read
 whole_of_known None new bytes read e r = cc
 whole_of_known (Some xs) new bytes read e r =
     let same : xs ≡ bytes = cc in sym same ∙ ReadWhole-known xs read new r
@@ -107,7 +107,7 @@ exact_status bytes (Ok x) exact = inr (sym (ap status_of exact.1))
 exact_status bytes (Err e) exact = elim exact [ inl is ↦ inl (ap error_status is) | inr is ↦ inr (sym (ap status_of is)) ]
 
 -- what a source that told its bytes gave in a call has one length
-same_length : (old new : Option (List ℕ)) (known xs ys : List ℕ) → old ≡ Some known → Consumes old new xs → Consumes old new ys → length xs ≡ length ys
+pub same_length : (old new : Option (List ℕ)) (known xs ys : List ℕ) → old ≡ Some known → Consumes old new xs → Consumes old new ys → length xs ≡ length ys
 same_length None new known xs ys e p q = cc
 same_length (Some zs) None known xs ys e p q = absurd p
 same_length (Some zs) (Some ws) known xs ys e p q =
@@ -115,21 +115,21 @@ same_length (Some zs) (Some ws) known xs ys e p q =
     let second : length zs ≡ length ys + length ws = ap length q ∙ length-append ys ws in omega arith
 
 -- what was read to its end and isn't too long is no longer than a script may be
-never_full : (old new : Streams) (items : Result (List Item) SessionError) → ReadAs old new items → (items ≡ Err TooLong → ⊥) → GaveTooMany old new → ⊥
+never_full : (old new : Streams) (items : Result (List Item) SessionError) → ReadAs old new items → (items ≡ Err TooLong → ⊥) → GaveTooMany 1048576 old new → ⊥
 never_full old new items read other gave =
     let same = same_length old.left new.left gave.bytes read.bytes gave.taken.bytes gave.known read.read.taken gave.taken.taken in
     let count = gave.taken.count in
     other (sym read.parsed ∙ long_is_refused read.bytes (omega arith))
 
 -- nor is what was taken before a read that failed
-never_spared : (old new : Streams) → TookAtMost 1048576 old.left new.left → GaveTooMany old new → ⊥
+never_spared : (old new : Streams) → TookAtMost 1048576 old.left new.left → GaveTooMany 1048576 old new → ⊥
 never_spared old new took gave =
     let same = same_length old.left new.left gave.bytes took.bytes gave.taken.bytes gave.known took.taken gave.taken.taken in
     let count = gave.taken.count in
     let most = took.count in omega arith
 
 -- the byte past the longest script was taken: the script is too long, or memory was lacking
-pub too_many_of : (old new : Streams) (r : Result Summary SessionError) → IfOk r (IsAnswered old new) → IfErr r (HasReason old new) → (IsErrOf r ReadFault → TookAtMost 1048576 old.left new.left) → GaveTooMany old new → (r ≡ Err TooLong) ⊎ (r ≡ Err Memory)
+pub too_many_of : (old new : Streams) (r : Result Summary SessionError) → IfOk r (IsAnswered old new) → IfErr r (HasReason old new) → (IsErrOf r ReadFault → TookAtMost 1048576 old.left new.left) → GaveTooMany 1048576 old new → (r ≡ Err TooLong) ⊎ (r ≡ Err Memory)
 too_many_of old new (Ok summary) ok err spares gave = absurd (never_full old new (Ok ok.items) ok.script (λ e. cc) gave)
 too_many_of old new (Err (Malformed line)) ok err spares gave = absurd (never_full old new (Err (Malformed line)) err.0 (λ e. cc) gave)
 too_many_of old new (Err TooLong) ok err spares gave = inl refl

@@ -50,11 +50,11 @@ pub record TookAtMost (most : ℕ) (old new : Option (List ℕ)) : Type 0 where
   pub taken : Consumes old new bytes
   pub count : length bytes ≤ most
 
--- more bytes than a script may have were read
-pub record TookTooMany (old new : Option (List ℕ)) : Type 0 where
+-- one more than so many bytes were read
+pub record TookTooMany (most : ℕ) (old new : Option (List ℕ)) : Type 0 where
   pub bytes : List ℕ
   pub taken : Consumes old new bytes
-  pub count : length bytes ≡ 1048577
+  pub count : length bytes ≡ most + 1
 
 -- a piece was read, and appended to what was read before
 pub record ReadPiece (old new : Option (List ℕ)) (before after : List ℕ) (room : ℕ) : Type 0 where
@@ -64,8 +64,8 @@ pub record ReadPiece (old new : Option (List ℕ)) (before after : List ℕ) (ro
   pub fits : length piece ≤ room
   pub end : length piece ≡ 0 → IsAtEnd new
 
--- Of an answer, and of the statement that the source has ended behind it: it has where the whole script was read, and has not where
--- the script was too long or a read failed. Where memory was wanting either may be
+-- Of an answer, and of the statement that the source has ended behind it: it has where the whole text was read, and has not where
+-- the text was too long or a read failed. Where memory was wanting either may be
 abbrev pub EndsReading : {X : Type 0} → Type 0 → Result X SessionError → Type 0
 EndsReading ended (Ok x) = ended
 EndsReading ended (Err (Malformed line)) = ended
@@ -74,7 +74,7 @@ EndsReading ended (Err TooLong) = ¬ ended
 EndsReading ended (Err ReadFault) = ¬ ended
 EndsReading ended (Err Memory) = Unit {0}
 
--- what reading a script may answer
+-- what reading a text may answer
 abbrev pub IsReadingError : SessionError → Type 0
 IsReadingError ReadFault = Unit {0}
 IsReadingError TooLong = Unit {0}

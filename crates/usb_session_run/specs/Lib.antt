@@ -1,4 +1,5 @@
 pub mod Causes
+pub mod Checks
 pub mod OneLine
 pub mod Live
 pub mod Generate

@@ -83,7 +83,7 @@ pub record IsCutOff (old new : Streams) : Type 0 where
 -- why a session fails, and what it wrote
 abbrev pub HasReason : Streams → Streams → SessionError → Type 0
 HasReason old new (Malformed line) = ReadAs old new (Err (Malformed line)) × Keeps old.written new.written
-HasReason old new TooLong = TookTooMany old.left new.left × Keeps old.written new.written
+HasReason old new TooLong = TookTooMany 1048576 old.left new.left × Keeps old.written new.written
 HasReason old new ReadFault = Rose old.read_faults new.read_faults × Keeps old.written new.written
 HasReason old new WriteFault = Rose old.write_faults new.write_faults × IsCutOff old new
 HasReason old new Memory = Keeps old.written new.written ⊎ IsCutOff old new
@@ -112,11 +112,11 @@ abbrev pub IsExact : {X : Type 0} → List ℕ → Result X SessionError → Typ
 IsExact bytes (Ok x) = (items : List Item) × (script_of bytes ≡ Ok items)
 IsExact bytes (Err e) = (e ≡ Memory) ⊎ (script_of bytes ≡ Err e)
 
--- before the call a source told its bytes, and in the call it gave one more than a script may have
-pub record GaveTooMany (old new : Streams) : Type 0 where
+-- before the call a source told its bytes, and in the call it gave one more than so many
+pub record GaveTooMany (most : ℕ) (old new : Streams) : Type 0 where
   pub bytes : List ℕ
   pub known : old.left ≡ Some bytes
-  pub taken : TookTooMany old.left new.left
+  pub taken : TookTooMany most old.left new.left
 
 -- where the source's bytes are these and were read to the end: they parse, and the answer is Ok or writing failed; or the answer is
 -- the parse's error; or memory was lacking

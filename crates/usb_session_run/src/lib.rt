@@ -1,6 +1,7 @@
 //! A session: reads a script, answers it and writes the answers.
 #![tactic(auto)]
 
+mod checking;
 mod generation;
 mod live;
 mod memory;

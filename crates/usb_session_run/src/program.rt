@@ -1,6 +1,6 @@
 //! The program.
 
-ghost use Rattle.std.specs.Prelude.{ℕ, List, IsOk, ◌≡◌, ◌≢◌, ◌⊎◌, ◌↔◌, ◌≤◌, ◌++◌, true, false, Some, None, map, string_bytes, decimal, IfSome, OnOk, OnErr};
+ghost use Rattle.std.specs.Prelude.{ℕ, List, IsOk, ◌≡◌, ◌≢◌, ◌⊎◌, ◌↔◌, ◌≤◌, ◌^◌, ◌++◌, length, true, false, Some, None, map, string_bytes, decimal, IfSome, OnOk, OnErr, IsTrue};
 ghost use Rattle.std.specs.Io.KnownBytes.{Appends, Keeps};
 ghost use Rattle.usb_session_run.specs.Causes.{RoseByOne, CountsFaults, WrotePrefix, FailedLast, TookAtMost};
 ghost use Rattle.usb_script.specs.Parse.{script_of};
@@ -8,8 +8,12 @@ ghost use Rattle.usb_session_run.specs.Session.{streams, IsAnswered, HasReason, 
 ghost use Rattle.usb_session.specs.declared.summary.Summary.{Summary};
 ghost use Rattle.usb_session_run.specs.Live.{live_count, live_line};
 ghost use Rattle.usb_session_run.specs.Generate.{generate_count, generate_line};
-ghost use Rattle.usb_session_run.specs.Program.{is_session, is_usage, status_of, report_of, error_line, usage_line, Reports, RunsSession, RunsLine};
+ghost use Rattle.usb_session_run.specs.Checks.{is_check, TellsForm, TellsText, TellsYes};
+ghost use Rattle.usb_session_run.specs.Program.{is_session, is_usage, status_of, report_of, error_line, usage_line, Reports, RunsSession, RunsLine, RunsCheck};
+ghost use Rattle.usb_trace.specs.Begins.{IsForm};
+ghost use Rattle.usb_trace.specs.Verdicts.{IsTrace};
 
+use crate::checking::check;
 use crate::generation::generate;
 use crate::live::live;
 use crate::outside::{Failed, Gathers, Sink, Source};
@@ -33,6 +37,19 @@ fn is_session(words: &[String]) -> bool
     match words {
         [] => true,
         [word] => word.as_str() == "session",
+        _ => false,
+    }
+}
+
+/// Whether the words ask for a check.
+fn is_check(words: &[String]) -> bool
+    ensures value { result ≡ is_check (map string_bytes words.now) }
+    ensures alone { IsTrue result → is_session (map string_bytes words.now) ≡ false }
+    ensures no_transfers { IsTrue result → live_count (map string_bytes words.now) ≡ None }
+    ensures no_script { IsTrue result → generate_count (map string_bytes words.now) ≡ None }
+{
+    match words {
+        [word] => word.as_str() == "check",
         _ => false,
     }
 }
@@ -131,7 +148,7 @@ fn report_usage<G: Sink>(diag: &mut G)
     ensures line { Reports (G.written diag.old) (G.written diag.new) (G.faults diag.old)
         (G.faults diag.new) usage_line }
 {
-    let _ = offer(diag, b"usage: nusb_sim [session|generate N|live N]\n");
+    let _ = offer(diag, b"usage: nusb_sim [session|generate N|live N|check]\n");
 }
 
 /// Reports words that couldn't be read as text, and answers the status of a faulty command line.
@@ -180,7 +197,55 @@ pub fn end_program<K: Gathers, D: Sink>(status: u8, sink: &mut K, diag: &mut D) 
     status_of(&answer)
 }
 
-/// Answers words that ask for no transfers between threads, and says the status. What it may do is as its type says: it starts no
+/// Checks the text of a source, and says the status.
+fn answer_check<S: Source, K: Sink, D: Sink>(
+    alloc: Global,
+    source: &mut S,
+    sink: &mut K,
+    diag: &mut D,
+) -> u8
+    requires goes_on { ¬ (S.has_ended source.old) }
+    ensures check { RunsCheck
+        (streams S.left S.faults K.written K.faults source.old sink.old)
+        (streams S.left S.faults K.written K.faults source.new sink.new)
+        (D.written diag.old) (D.written diag.new) (D.faults diag.old) (D.faults diag.new) result }
+    ensures known { result ≢ 2 }
+    ensures exact { (text : List ℕ) → IsQuiet
+        (streams S.left S.faults K.written K.faults source.old sink.old)
+        (streams S.left S.faults K.written K.faults source.new sink.new) text →
+        TellsText text result }
+    ensures yes { (text : List ℕ) → IsQuiet
+        (streams S.left S.faults K.written K.faults source.old sink.old)
+        (streams S.left S.faults K.written K.faults source.new sink.new) text →
+        length text ≤ 2 ^ 24 → IsTrace text →
+        TellsYes (K.written sink.old) (K.written sink.new) result }
+    ensures ended { (result ≡ 0) ⊎ (result ≡ 3) ⊎ (result ≡ 6) → S.has_ended source.new }
+    ensures goes_on { (result ≡ 4) ⊎ (result ≡ 5) → ¬ (S.has_ended source.new) }
+    ensures form { S.has_ended source.new → (text : List ℕ) → S.left source.old ≡ Some text →
+        TellsForm text result ⊎ ((result ≡ 6) × IsForm text) }
+    ensures too_many { GaveTooMany 16777216
+        (streams S.left S.faults K.written K.faults source.old sink.old)
+        (streams S.left S.faults K.written K.faults source.new sink.new) →
+        (result ≡ 4) ⊎ (result ≡ 7) }
+    ensures read_fault { result ≡ 5 → HasReason
+        (streams S.left S.faults K.written K.faults source.old sink.old)
+        (streams S.left S.faults K.written K.faults source.new sink.new)
+        SessionError.ReadFault }
+    ensures stops { result ≡ 5 →
+        FailedLast (S.faults source.old) (S.faults source.new) (S.has_failed source.new) }
+    ensures most { TookAtMost 16777217 (S.left source.old) (S.left source.new) }
+    ensures once { result ≡ 6 → RoseByOne (K.faults sink.old) (K.faults sink.new) }
+    ensures quiet { result ≡ 0 → K.faults sink.new ≡ K.faults sink.old }
+    ensures stops_writing { result ≡ 6 →
+        FailedLast (K.faults sink.old) (K.faults sink.new) (K.has_failed sink.new) }
+    ensures untold { result ≡ 0 → diag.new ≡ diag.old }
+{
+    let answer = check(alloc, source, sink);
+    report(diag, &answer);
+    status_of(&answer)
+}
+
+/// Answers words that ask for no check and no transfers between threads, and says the status. What it may do is as its type says: it starts no
 /// thread, waits for none, asks no gate and sets no flag.
 fn answer_words<S: Source, K: Sink, D: Sink>(
     alloc: Global,
@@ -190,6 +255,7 @@ fn answer_words<S: Source, K: Sink, D: Sink>(
     diag: &mut D,
 ) -> u8
     requires goes_on { ¬ (S.has_ended source.old) }
+    requires no_check { is_check (map string_bytes words.now) ≡ false }
     requires no_transfers { live_count (map string_bytes words.now) ≡ None }
     ensures usage { result ≡ 2 ↔ (is_usage (map string_bytes words.now) ≡ true) }
     ensures usage_line { result ≡ 2 → Reports (D.written diag.old) (D.written diag.new)
@@ -249,7 +315,7 @@ fn answer_words<S: Source, K: Sink, D: Sink>(
         S.has_ended source.new → (bytes : List ℕ) → S.left source.old ≡ Some bytes →
         (result ≡ status_of (script_of bytes)) ⊎ (result ≡ 6) ⊎ (result ≡ 7) }
     // The byte past the longest script is taken only where the script is too long, or memory was lacking.
-    ensures too_many { is_session (map string_bytes words.now) ≡ true → GaveTooMany
+    ensures too_many { is_session (map string_bytes words.now) ≡ true → GaveTooMany 1048576
         (streams S.left S.faults K.written K.faults source.old sink.old)
         (streams S.left S.faults K.written K.faults source.new sink.new) →
         (result ≡ 4) ⊎ (result ≡ 7) }
@@ -302,9 +368,9 @@ pub fn run_program<R: Threads + Wait + Sync, S: Source, K: Sink, D: Sink, G: Gat
     ensures usage { result ≡ 2 ↔ (is_usage (map string_bytes words.now.items) ≡ true) }
     ensures usage_line { result ≡ 2 → Reports (D.written diag.old) (D.written diag.new)
         (D.faults diag.old) (D.faults diag.new) usage_line }
-    // Nothing is read where no session is asked for, and nothing is written where the usage line is due.
+    // Nothing is read where no session and no check is asked for, and nothing is written where the usage line is due.
     ensures unread { is_session (map string_bytes words.now.items) ≡ false →
-        source.new ≡ source.old }
+        is_check (map string_bytes words.now.items) ≡ false → source.new ≡ source.old }
     ensures unwritten { is_usage (map string_bytes words.now.items) ≡ true → sink.new ≡ sink.old }
     ensures session { is_session (map string_bytes words.now.items) ≡ true → RunsSession
         (streams S.left S.faults K.written K.faults source.old sink.old)
@@ -324,11 +390,12 @@ pub fn run_program<R: Threads + Wait + Sync, S: Source, K: Sink, D: Sink, G: Gat
         (streams S.left S.faults K.written K.faults source.old sink.old)
         (streams S.left S.faults K.written K.faults source.new sink.new)
         summary }
-    ensures malformed { result ≡ 3 → (line : ℕ) × HasReason
+    ensures malformed { is_check (map string_bytes words.now.items) ≡ false → result ≡ 3 →
+        (line : ℕ) × HasReason
         (streams S.left S.faults K.written K.faults source.old sink.old)
         (streams S.left S.faults K.written K.faults source.new sink.new)
         (SessionError.Malformed line) }
-    ensures too_long { result ≡ 4 → HasReason
+    ensures too_long { is_check (map string_bytes words.now.items) ≡ false → result ≡ 4 → HasReason
         (streams S.left S.faults K.written K.faults source.old sink.old)
         (streams S.left S.faults K.written K.faults source.new sink.new)
         SessionError.TooLong }
@@ -361,14 +428,15 @@ pub fn run_program<R: Threads + Wait + Sync, S: Source, K: Sink, D: Sink, G: Gat
         S.has_ended source.new → (bytes : List ℕ) → S.left source.old ≡ Some bytes →
         (result ≡ status_of (script_of bytes)) ⊎ (result ≡ 6) ⊎ (result ≡ 7) }
     // The byte past the longest script is taken only where the script is too long, or memory was lacking.
-    ensures too_many { is_session (map string_bytes words.now.items) ≡ true → GaveTooMany
+    ensures too_many { is_session (map string_bytes words.now.items) ≡ true → GaveTooMany 1048576
         (streams S.left S.faults K.written K.faults source.old sink.old)
         (streams S.left S.faults K.written K.faults source.new sink.new) →
         (result ≡ 4) ⊎ (result ≡ 7) }
     // After a read that failed nothing more is read, and never more than one byte past the longest script.
     ensures stops { result ≡ 5 →
         FailedLast (S.faults source.old) (S.faults source.new) (S.has_failed source.new) }
-    ensures most { TookAtMost 1048577 (S.left source.old) (S.left source.new) }
+    ensures most { is_check (map string_bytes words.now.items) ≡ false →
+        TookAtMost 1048577 (S.left source.old) (S.left source.new) }
     // One write failed where the status is 6, and none where it is 0; then nothing is reported.
     ensures once { result ≡ 6 → RoseByOne (K.faults sink.old) (K.faults sink.new) }
     ensures quiet { result ≡ 0 → K.faults sink.new ≡ K.faults sink.old }
@@ -382,8 +450,43 @@ pub fn run_program<R: Threads + Wait + Sync, S: Source, K: Sink, D: Sink, G: Gat
         (streams S.left S.faults K.written K.faults source.old sink.old)
         (streams S.left S.faults K.written K.faults source.new sink.new)
         → (result ≡ 0) ⊎ (result ≡ 7) }
+    // Of a check: the verdict on the whole text is written, or it is told why there is none.
+    ensures check { is_check (map string_bytes words.now.items) ≡ true → RunsCheck
+        (streams S.left S.faults K.written K.faults source.old sink.old)
+        (streams S.left S.faults K.written K.faults source.new sink.new)
+        (D.written diag.old) (D.written diag.new) (D.faults diag.old) (D.faults diag.new) result }
+    // Where nothing fails, the status is by the length and the form of the source's text, and a trace is told so, or memory was lacking.
+    ensures check_exact { is_check (map string_bytes words.now.items) ≡ true →
+        (text : List ℕ) → IsQuiet
+        (streams S.left S.faults K.written K.faults source.old sink.old)
+        (streams S.left S.faults K.written K.faults source.new sink.new) text →
+        TellsText text result }
+    ensures check_yes { is_check (map string_bytes words.now.items) ≡ true →
+        (text : List ℕ) → IsQuiet
+        (streams S.left S.faults K.written K.faults source.old sink.old)
+        (streams S.left S.faults K.written K.faults source.new sink.new) text →
+        length text ≤ 2 ^ 24 → IsTrace text →
+        TellsYes (K.written sink.old) (K.written sink.new) result }
+    // The source has ended exactly where the whole text was read (but for want of memory), and then the status is by its form, or that
+    // of a write fault.
+    ensures check_ended { is_check (map string_bytes words.now.items) ≡ true →
+        (result ≡ 0) ⊎ (result ≡ 3) ⊎ (result ≡ 6) → S.has_ended source.new }
+    ensures check_form { is_check (map string_bytes words.now.items) ≡ true →
+        S.has_ended source.new → (text : List ℕ) → S.left source.old ≡ Some text →
+        TellsForm text result ⊎ ((result ≡ 6) × IsForm text) }
+    // The byte past the longest text is taken only where the text is too long, or memory was lacking, and never more than that.
+    ensures check_too_many { is_check (map string_bytes words.now.items) ≡ true →
+        GaveTooMany 16777216
+        (streams S.left S.faults K.written K.faults source.old sink.old)
+        (streams S.left S.faults K.written K.faults source.new sink.new) →
+        (result ≡ 4) ⊎ (result ≡ 7) }
+    ensures check_most { is_check (map string_bytes words.now.items) ≡ true →
+        TookAtMost 16777217 (S.left source.old) (S.left source.new) }
 {
     let words = words.as_slice();
+    if is_check(words) {
+        return answer_check(alloc, source, sink, diag);
+    }
     let Some(n) = live_count(words) else {
         return answer_words(alloc, words, source, sink, diag);
     };

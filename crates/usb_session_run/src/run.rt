@@ -30,11 +30,11 @@ ghost use Rattle.usb_session_run.specs.Stops.{StoppedBehind, KeepsAnswered};
 ghost use Rattle.usb_session_run.specs.Session.{streams, IsAnswered, HasReason, FaultsNeverFall, IsSmooth, IsQuiet, IsExact, GaveTooMany, AnswersBytes};
 
 use crate::outside::{Failed, Sink, Source};
-use crate::reading::read_script;
+use crate::reading::read_whole;
 use crate::writing::offer;
 use std::alloc::Global;
 use usb_kernel::Kernel;
-use usb_script::{Script, SessionError, parse_script};
+use usb_script::{MAX_SCRIPT, Script, SessionError, parse_script};
 use usb_script_lines::Item;
 use usb_session::{Host, Session, Summary, tickets, write_fate};
 
@@ -302,7 +302,7 @@ fn answer_source<S: Source, K: Sink>(
         FailedLast (K.faults sink.old) (K.faults sink.new) (K.has_failed sink.new) }
     ensures quiet { OnOk result (K.faults sink.new ≡ K.faults sink.old) }
 {
-    let bytes = read_script(alloc, source)?;
+    let bytes = read_whole(alloc, source, MAX_SCRIPT)?;
     let script = parse_script(alloc, bytes.as_slice())?;
     let Ran {
         result,
@@ -351,7 +351,7 @@ pub fn run_session<S: Source, K: Sink>(
     ensures parsed { S.has_ended source.new → (bytes : List ℕ) → S.left source.old ≡ Some bytes →
         AnswersBytes bytes result }
     // The byte past the longest script is taken only where the script is too long, or memory was lacking.
-    ensures too_many { GaveTooMany
+    ensures too_many { GaveTooMany 1048576
         (streams S.left S.faults K.written K.faults source.old sink.old)
         (streams S.left S.faults K.written K.faults source.new sink.new) →
         (result ≡ Err SessionError.TooLong) ⊎ (result ≡ Err SessionError.Memory) }
