@@ -17,11 +17,12 @@ use Rattle.usb_kernel.specs.contracts.kernel.Kernel.{the_view}
 use Rattle.usb_kernel.specs.Value.{KernelState}
 use Rattle.usb_kernel.specs.Tickets.{tickets}
 use Rattle.usb_kernel.specs.Legal.{IsLegal, IsLawful}
+use Rattle.usb_kernel.specs.Acts.{acts, EachActs}
 use Rattle.usb_kernel.specs.Deadlines.{KeepsDeadlines}
 use Rattle.usb_kernel.specs.declared.slot.TicketRow.{TicketRow}
 use Rattle.usb_kernel.proofs.Fresh.{length-rows}
 use Rattle.usb_kernel.specs.Rows.{Agrees, owed}
-use Rattle.usb_kernel.specs.KernelFacts.{IsKept}
+use Rattle.usb_kernel.specs.KernelFacts.{GoneAreUnplugged, IsKept}
 
 -- what a kernel is to its users, part by part
 pub past_is : (k : Inside) {s : KernelState} → the_view k ≡ s → reverse k.journal.items ≡ s.past
@@ -74,10 +75,12 @@ pub has-room_owed : (k : Inside) → IsKept k → 1 ≤ k.owed → vec_len k.jou
 has-room_owed k kept some = omega (arith, kept.space)
 
 -- an event came that submits nothing, used so many places and freed so many
-pub kept-event : (k next : Inside) (event : Event) (freed : ℕ) → IsKept k → IsLawful (reverse next.journal.items) → Agrees (reverse next.journal.items) next.tickets.rows → KeepsDeadlines (reverse next.journal.items) next.deadlines.keys → reverse next.journal.items ≡ event ∷ reverse k.journal.items → tickets (event ∷ reverse k.journal.items) ≡ tickets (reverse k.journal.items) → sum_by owed next.tickets.rows + freed ≡ sum_by owed k.tickets.rows → next.owed ≡ k.owed - freed → vec_len next.journal ≡ vec_len k.journal + 1 → vec_capacity k.journal ≤ vec_capacity next.journal → next.spare + next.owed + 1 ≤ k.spare + k.owed → next.spare ≤ k.spare → next.armed ≡ k.armed → IsKept next
-kept-event k next event freed kept lawful agrees timed items same places owes len more used less armed =
+pub kept-event : (k next : Inside) (event : Event) (freed : ℕ) → IsKept k → IsLawful (reverse next.journal.items) → EachActs (reverse next.journal.items) → GoneAreUnplugged (reverse next.journal.items) next.devices.items → Agrees (reverse next.journal.items) next.tickets.rows → KeepsDeadlines (reverse next.journal.items) next.deadlines.keys → reverse next.journal.items ≡ event ∷ reverse k.journal.items → tickets (event ∷ reverse k.journal.items) ≡ tickets (reverse k.journal.items) → sum_by owed next.tickets.rows + freed ≡ sum_by owed k.tickets.rows → next.owed ≡ k.owed - freed → vec_len next.journal ≡ vec_len k.journal + 1 → vec_capacity k.journal ≤ vec_capacity next.journal → next.spare + next.owed + 1 ≤ k.spare + k.owed → next.spare ≤ k.spare → next.armed ≡ k.armed → IsKept next
+kept-event k next event freed kept lawful each gone agrees timed items same places owes len more used less armed =
     record {
       lawful = lawful;
+      acts = each;
+      gone = gone;
       agrees = agrees;
       timed = timed;
       owes = omega (arith, kept.owes);
@@ -88,10 +91,12 @@ kept-event k next event freed kept lawful agrees timed items same places owes le
     }
 
 -- no event came
-pub kept-quiet : (k next : Inside) → IsKept k → next.journal ≡ k.journal → Agrees (reverse k.journal.items) next.tickets.rows → next.deadlines ≡ k.deadlines → sum_by owed next.tickets.rows + 0 ≡ sum_by owed k.tickets.rows → next.owed ≡ k.owed → next.spare ≤ k.spare → next.armed ≡ k.armed → IsKept next
-kept-quiet k next kept journal agrees deadlines places owes less armed =
+pub kept-quiet : (k next : Inside) → IsKept k → next.journal ≡ k.journal → GoneAreUnplugged (reverse k.journal.items) next.devices.items → Agrees (reverse k.journal.items) next.tickets.rows → next.deadlines ≡ k.deadlines → sum_by owed next.tickets.rows + 0 ≡ sum_by owed k.tickets.rows → next.owed ≡ k.owed → next.spare ≤ k.spare → next.armed ≡ k.armed → IsKept next
+kept-quiet k next kept journal gone agrees deadlines places owes less armed =
     record {
       lawful = rw journal kept.lawful;
+      acts = rw journal kept.acts;
+      gone = rw journal gone;
       agrees = rw journal agrees;
       timed = rw (journal, deadlines) kept.timed;
       owes = omega (arith, kept.owes);
@@ -129,6 +134,8 @@ pub kept-armed : (k : Inside) (armed : Refusals) (refusal : Armed) → IsKept k 
 kept-armed k armed refusal kept errno more room =
     record {
       lawful = kept.lawful;
+      acts = kept.acts;
+      gone = kept.gone;
       agrees = kept.agrees;
       timed = kept.timed;
       owes = kept.owes;
@@ -151,11 +158,13 @@ room-more journal places room = omega (arith, room)
 pub number-small : (t : ℕ) (rows next : List TicketRow) → t ≡ length next → next ≡ rows → 4 * (length rows + 1) < 2 ^ 64 → 4 * t + 3 < 2 ^ 64
 number-small t rows next is same small = omega (arith, ap length same)
 
-pub kept-ready : (k next : Inside) → IsKept k → next.journal.items ≡ k.journal.items → vec_len next.journal ≡ vec_len k.journal → vec_capacity k.journal ≤ vec_capacity next.journal → next.tickets.rows ≡ k.tickets.rows → next.deadlines.keys ≡ k.deadlines.keys → next.owed ≡ k.owed → next.spare ≡ k.spare → next.armed ≡ k.armed → IsKept next
-kept-ready k next kept items len more rows keys owes spare armed =
+pub kept-ready : (k next : Inside) → IsKept k → next.journal.items ≡ k.journal.items → vec_len next.journal ≡ vec_len k.journal → vec_capacity k.journal ≤ vec_capacity next.journal → next.devices ≡ k.devices → next.tickets.rows ≡ k.tickets.rows → next.deadlines.keys ≡ k.deadlines.keys → next.owed ≡ k.owed → next.spare ≡ k.spare → next.armed ≡ k.armed → IsKept next
+kept-ready k next kept items len more devices rows keys owes spare armed =
     let past : reverse k.journal.items ≡ reverse next.journal.items = ap (λ (xs : List Event). reverse xs) (sym items) in
     record {
       lawful = subst IsLawful past kept.lawful;
+      acts = subst EachActs past kept.acts;
+      gone = rw devices (subst (λ p. GoneAreUnplugged p k.devices.items) past kept.gone);
       agrees = rw rows (subst (λ p. Agrees p k.tickets.rows) past kept.agrees);
       timed = rw keys (subst (λ p. KeepsDeadlines p k.deadlines.keys) past kept.timed);
       owes = rw (owes, rows) kept.owes;
@@ -169,10 +178,12 @@ pub view-ready : (k : Inside) {s : KernelState} (items : List Event) → items �
 view-ready k items same is = rw same is
 
 -- one more ticket came
-pub kept-ticket : (k next : Inside) (ready : Vec Event Global) (event : Event) → IsKept k → IsLegal event → Agrees (event ∷ reverse k.journal.items) next.tickets.rows → KeepsDeadlines (event ∷ reverse k.journal.items) next.deadlines.keys → reverse next.journal.items ≡ event ∷ reverse k.journal.items → length (tickets (event ∷ reverse k.journal.items)) ≡ length (tickets (reverse k.journal.items)) + 1 → next.owed ≡ sum_by owed next.tickets.rows → next.owed ≤ k.owed + 2 → next.spare ≡ k.spare → vec_len ready + (k.spare + k.owed) + 3 ≤ vec_capacity ready → 4 * (length k.tickets.rows + 1) ≤ vec_capacity ready → vec_len next.journal ≡ vec_len ready + 1 → vec_capacity ready ≤ vec_capacity next.journal → next.armed ≡ k.armed → IsKept next
-kept-ticket k next ready event kept legal agrees timed items one owes few spare room four len more armed =
+pub kept-ticket : (k next : Inside) (ready : Vec Event Global) (event : Event) → IsKept k → IsLegal event → acts (reverse k.journal.items) event ≡ true → GoneAreUnplugged (event ∷ reverse k.journal.items) next.devices.items → Agrees (event ∷ reverse k.journal.items) next.tickets.rows → KeepsDeadlines (event ∷ reverse k.journal.items) next.deadlines.keys → reverse next.journal.items ≡ event ∷ reverse k.journal.items → length (tickets (event ∷ reverse k.journal.items)) ≡ length (tickets (reverse k.journal.items)) + 1 → next.owed ≡ sum_by owed next.tickets.rows → next.owed ≤ k.owed + 2 → next.spare ≡ k.spare → vec_len ready + (k.spare + k.owed) + 3 ≤ vec_capacity ready → 4 * (length k.tickets.rows + 1) ≤ vec_capacity ready → vec_len next.journal ≡ vec_len ready + 1 → vec_capacity ready ≤ vec_capacity next.journal → next.armed ≡ k.armed → IsKept next
+kept-ticket k next ready event kept legal acted gone agrees timed items one owes few spare room four len more armed =
     record {
       lawful = rw items (legal, kept.lawful);
+      acts = rw items (acted, kept.acts);
+      gone = rw items gone;
       agrees = rw items agrees;
       timed = rw items timed;
       owes = owes;
@@ -197,6 +208,8 @@ pub kept-disarmed : (k : Inside) (armed : Refusals) → IsKept k → All HasArme
 kept-disarmed k armed kept errnos room =
     record {
       lawful = kept.lawful;
+      acts = kept.acts;
+      gone = kept.gone;
       agrees = kept.agrees;
       timed = kept.timed;
       owes = kept.owes;
@@ -209,3 +222,19 @@ kept-disarmed k armed kept errnos room =
 -- there is room for the event that a place is owed for
 pub room-one : (journal : Vec Event Global) (left total : ℕ) → left + 1 ≡ total → vec_len journal + total ≤ vec_capacity journal → vec_len journal < vec_capacity journal
 room-one journal left total one room = omega arith
+
+-- what is kept of devices is another
+pub kept-devices : (k : Inside) (devices : Vec DeviceState Global) → IsKept k → GoneAreUnplugged (reverse k.journal.items) devices.items → IsKept (record k { devices = devices })
+kept-devices k devices kept gone =
+    record {
+      lawful = kept.lawful;
+      acts = kept.acts;
+      gone = gone;
+      agrees = kept.agrees;
+      timed = kept.timed;
+      owes = kept.owes;
+      space = kept.space;
+      four = kept.four;
+      errnos = kept.errnos;
+      places = kept.places;
+    }

@@ -34,6 +34,8 @@ pub mod Waiting
 pub mod Entries
 pub mod Unreaped
 pub mod Freed
+pub mod Gone
+pub mod Acts
 pub mod Kept
 pub mod Submitting
 pub mod ChainLemmas

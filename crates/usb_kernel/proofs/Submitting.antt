@@ -6,6 +6,7 @@ use Rattle.std.specs.Result.{is_ok}
 use Rattle.std.proofs.lemmas.Bool.{false≢true}
 use Rattle.usb_kernel_devices.specs.declared.devices.DeviceState.{DeviceState}
 use Rattle.usb_kernel_devices.specs.declared.step.Armed.{Armed}
+use Rattle.usb_kernel.specs.declared.event.Event.{Event}
 use Rattle.usb_kernel.specs.declared.kernel.Kernel.TheInside.{Inside}
 use Rattle.usb_kernel.specs.contracts.kernel.Kernel.{the_view}
 use Rattle.usb_kernel_devices.specs.Errnos.{IsErrno}
@@ -43,3 +44,7 @@ rest-both a b rest = rest ∙ ap (λ (xs : List Armed). record b { past = a.past
 
 pub rest-disarmed : (k : Inside) (n s : KernelState) (armed : List Armed) → the_view k ≡ n → n ≡ record s { past = n.past } → ◌≡◌ {A = KernelState} (record { past = reverse k.journal.items; devices = k.devices.items; clock = k.clock; armed = armed; spare = k.spare }) (record s { past = reverse k.journal.items; armed = armed })
 rest-disarmed k n s armed is rest = ap (λ (x : KernelState). record x { past = reverse k.journal.items; armed = armed }) (is ∙ rest)
+
+-- an event came, and no refusal was used up
+pub rest-filed : (k : Inside) {s : KernelState} (past : List Event) → the_view k ≡ s → ◌≡◌ {A = KernelState} (record { past = past; devices = k.devices.items; clock = k.clock; armed = k.armed.armed; spare = k.spare }) (record s { past = past; armed = k.armed.armed })
+rest-filed k past is = rw (← is) refl

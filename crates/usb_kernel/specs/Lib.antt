@@ -14,6 +14,7 @@ pub mod DeviceCalls
 pub mod Steps
 pub mod Deadlines
 pub mod Legal
+pub mod Acts
 pub mod Info
 pub mod Rows
 pub mod Passing

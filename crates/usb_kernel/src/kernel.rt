@@ -3,6 +3,7 @@
 ghost use Rattle.std.specs.Prelude.{◌≡◌, ◌+◌, ◌<◌, ◌≤◌, [], length, map, max, reverse, Some, OnOk, OnErr, IfOk};
 ghost use Rattle.usb_kernel.specs.Tickets.{tickets};
 ghost use Rattle.usb_kernel.specs.Legal.{IsLawful};
+ghost use Rattle.usb_kernel.specs.Acts.{EachActs};
 ghost use Rattle.usb_kernel.specs.declared.event.Event.{Event};
 ghost use Rattle.usb_kernel.specs.Completions.{lowest};
 ghost use Rattle.usb_kernel_devices.specs.Devices.{fresh_device};
@@ -80,6 +81,7 @@ impl Kernel {
     pub fn journal(&self) -> &[Event]
         ensures events { result.now ≡ reverse self.now.past }
         ensures lawful { IsLawful self.now.past }
+        ensures acts { EachActs self.now.past }
     {
         self.journal.as_slice()
     }

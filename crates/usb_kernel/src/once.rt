@@ -1,15 +1,15 @@
 //! Calls that promise no count of look-ups: each makes a counter of its own, which nobody reads.
 
-ghost use Rattle.std.specs.Prelude.{◌≡◌, ◌+◌, ◌*◌, ◌^◌, ◌<◌, ◌≤◌, ◌∷◌, List, length, Some, OnOk, OnErr, IfOk, IfErr};
+ghost use Rattle.std.specs.Prelude.{◌≡◌, ◌+◌, ◌*◌, ◌^◌, ◌<◌, ◌≤◌, List, length, Some, OnOk, OnErr, IfOk, IfErr, IfSome};
 ghost use Rattle.usb_kernel.specs.declared.event.Event.{Event};
-ghost use Rattle.usb_kernel.specs.Tickets.{tickets};
 ghost use Rattle.usb_kernel.specs.Rows.{Agrees};
 ghost use Rattle.usb_kernel.specs.Info.{info_of};
-ghost use Rattle.usb_kernel.specs.Submissions.{submit_event, IsWhole};
-ghost use Rattle.usb_kernel.specs.Submits.{number_of};
+ghost use Rattle.usb_kernel.specs.Submissions.{IsWhole};
+ghost use Rattle.usb_kernel.specs.Submits.{submit_refusal, submit_result, after_submit, armed_after_submit, number_of};
 ghost use Rattle.usb_kernel.specs.Completions.{reapable};
 ghost use Rattle.usb_kernel.specs.Timers.{timer_turned};
 ghost use Rattle.usb_kernel_devices.specs.Devices.{devices_unplugged};
+ghost use Rattle.usb_kernel_devices.specs.Errnos.{IsErrno};
 ghost use Rattle.usb_kernel.specs.Steps.{after_discard, after_reap, after_unplug, stepped, step_done, devices_stepped, clock_stepped, armed_stepped, HasErrno};
 
 use crate::kernel::Kernel;
@@ -72,7 +72,7 @@ pub(crate) fn unplug_with<L: Ledger>(kernel: &mut Kernel, device: u8, blank: Bla
 }
 
 /// A submission becomes the next ticket.
-pub(crate) fn queue_with<L: Ledger>(
+pub(crate) fn submit_with<L: Ledger>(
     kernel: &mut Kernel,
     s: Submission,
     blank: Blank,
@@ -82,16 +82,21 @@ pub(crate) fn queue_with<L: Ledger>(
     requires some { 0 < blank.parts }
     requires whole { IsWhole s }
     ensures submitted { IfOk result
-        (λ r. r ≡ Submitted.Queued (length (tickets kernel.old.past))) }
+        (λ r. r ≡ submit_result kernel.old.devices kernel.old.armed kernel.old.past s) }
     ensures number { IfOk result (λ r. 4 * number_of r + 3 < 2 ^ 64) }
-    ensures past { OnOk result
-        (kernel.new.past ≡ submit_event (length (tickets kernel.old.past)) s ∷ kernel.old.past) }
-    ensures rest { kernel.new ≡ record kernel.old { past = kernel.new.past } }
+    ensures past { OnOk result (kernel.new.past
+        ≡ after_submit kernel.old.devices kernel.old.armed kernel.old.past s) }
+    ensures armed { OnOk result
+        (kernel.new.armed ≡ armed_after_submit kernel.old.devices kernel.old.armed s) }
+    ensures known { OnOk result
+        (IfSome (submit_refusal kernel.old.devices kernel.old.armed s.device) IsErrno) }
+    ensures rest { kernel.new
+        ≡ record kernel.old { past = kernel.new.past; armed = kernel.new.armed } }
     ensures err { OnErr result (kernel.new ≡ kernel.old) }
     ensures back { IfErr result (λ back. back ≡ s) }
 {
     let mut steps = Steps::<L>::new(blank);
-    kernel.queue(s, &mut steps)
+    kernel.submit_counted(s, &mut steps)
 }
 
 /// A ticket is discarded.

@@ -18,7 +18,7 @@ use crate::event::Event;
 use crate::journal::put;
 use crate::kernel::Kernel;
 use crate::looks::Steps;
-use crate::once::{discard_with, queue_with, reap_with, timer_turn_with};
+use crate::once::{discard_with, reap_with, submit_with, timer_turn_with};
 use crate::submission::{Done, Submission, Submitted};
 use crate::table::TicketTable;
 use crate::timer::{add_deadline, discard_due, discard_ticket, forget_deadline};
@@ -114,38 +114,40 @@ impl Kernel {
         ensures err { OnErr result (self.new ≡ self.old) }
         ensures back { IfErr result (λ back. back ≡ s) }
     {
-        if plugged(&self.devices, s.device).is_none() {
-            return self.refuse(s, errno::NODEV);
-        }
-        let device = s.device;
-        match self.armed.errno(device, KernelCall::Submit) {
-            None => queue_with::<Brand>(self, s, Blank::new(1)),
-            Some(errno) => {
-                let refused = self.refuse(s, errno);
-                if refused.is_ok() {
-                    self.armed.disarm(device, KernelCall::Submit);
-                }
-                refused
-            }
-        }
+        submit_with::<Brand>(self, s, Blank::new(1))
     }
 
-    /// A submission becomes the next ticket.
-    pub(crate) fn queue<L: Ledger>(
+    /// A submission becomes the next ticket, refused as above or not.
+    pub(crate) fn submit_counted<L: Ledger>(
         &mut self,
         s: Submission,
         steps: &mut Steps<L>,
     ) -> Result<Submitted, Submission>
         requires whole { IsWhole s }
         ensures submitted { IfOk result
-            (λ r. r ≡ Submitted.Queued (length (tickets self.old.past))) }
+            (λ r. r ≡ submit_result self.old.devices self.old.armed self.old.past s) }
         ensures number { IfOk result (λ r. 4 * number_of r + 3 < 2 ^ 64) }
         ensures past { OnOk result
-            (self.new.past ≡ submit_event (length (tickets self.old.past)) s ∷ self.old.past) }
-        ensures rest { self.new ≡ record self.old { past = self.new.past } }
+            (self.new.past ≡ after_submit self.old.devices self.old.armed self.old.past s) }
+        ensures armed { OnOk result
+            (self.new.armed ≡ armed_after_submit self.old.devices self.old.armed s) }
+        ensures known { OnOk result
+            (IfSome (submit_refusal self.old.devices self.old.armed s.device) IsErrno) }
+        ensures rest { self.new ≡ record self.old { past = self.new.past; armed = self.new.armed } }
         ensures err { OnErr result (self.new ≡ self.old) }
         ensures back { IfErr result (λ back. back ≡ s) }
     {
+        if plugged(&self.devices, s.device).is_none() {
+            return self.refuse(s, errno::NODEV);
+        }
+        let device = s.device;
+        if let Some(errno) = self.armed.errno(device, KernelCall::Submit) {
+            let refused = self.refuse(s, errno);
+            if refused.is_ok() {
+                self.armed.disarm(device, KernelCall::Submit);
+            }
+            return refused;
+        }
         let places = self.spare + self.owed;
         let Ok(()) = make_place(&mut self.journal, &mut self.tickets, places, &s) else {
             return Err(s);

@@ -7,9 +7,9 @@ use Rattle.usb_kernel.specs.Steps.{stepped, devices_stepped, armed_stepped}
 use Rattle.usb_kernel.specs.Value.{KernelState}
 use Rattle.usb_kernel_devices.specs.declared.step.KernelStep.{KernelStep}
 use Rattle.usb_kernel_devices.specs.Devices.{plugged_device}
-use Rattle.usb_trace.specs.Journals.{acts, is_gone}
+use Rattle.usb_kernel.specs.Acts.{acts, is_gone}
 use Rattle.usb_trace.specs.Replays.{IsReplaying, CanBeDone, is_below, step_for}
-use Rattle.usb_trace.proofs.Gone.{plugged-unplugged}
+use Rattle.usb_kernel.proofs.Gone.{plugged-unplugged}
 
 -- a step appends its event where that acts
 pub stepped-acts : (k : KernelState) (event : Event) → IsReplaying k → CanBeDone event → is_below event ≡ true → stepped k.devices k.clock k.past (step_for event) ≡ (if acts k.past event then event ∷ k.past else k.past)

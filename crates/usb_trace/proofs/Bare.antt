@@ -13,7 +13,7 @@ use Rattle.usb_kernel.specs.Journal.{is_open, oldest_among, change, at_ticket, a
 use Rattle.usb_kernel.specs.Discards.{is_unfinished}
 use Rattle.usb_kernel.specs.Completions.{done_if, done_of, reapable}
 use Rattle.usb_kernel.specs.Info.{info_if, info_of}
-use Rattle.usb_trace.specs.Journals.{acts, is_gone}
+use Rattle.usb_kernel.specs.Acts.{acts, is_gone}
 use Rattle.usb_trace_lines.specs.Capacities.{without_capacity}
 
 -- a ticket with no capacity

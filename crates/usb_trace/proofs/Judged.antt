@@ -20,7 +20,7 @@ use Rattle.usb_trace_lines.specs.Texts.{trace_text, trace, line_text}
 use Rattle.usb_trace.specs.Begins.{IsForm}
 use Rattle.usb_trace.specs.Fails.{FailsFirstAt, CanBegin}
 use Rattle.usb_trace.specs.FirstOther.{IsFirstOther}
-use Rattle.usb_trace.specs.Journals.{acts, EachActs}
+use Rattle.usb_kernel.specs.Acts.{acts, EachActs}
 use Rattle.usb_trace.specs.Lines.{lines}
 use Rattle.usb_trace.specs.Replays.{IsReplay, StopsAt}
 use Rattle.usb_trace.specs.Verdicts.{IsTrace}

@@ -4,7 +4,6 @@ pub mod Bare
 pub mod Complete
 pub mod Counted
 pub mod FirstOther
-pub mod Gone
 pub mod Judged
 pub mod Keeping
 pub mod Malformed

@@ -20,7 +20,7 @@ use Rattle.usb_xfer.specs.declared.error.TransferError.TheVariants.{Cancelled, S
 use Rattle.usb_trace_lines.specs.Fates.{fate_told, fates_of}
 use Rattle.usb_trace_lines.specs.Forms.{IsTold, IsFateTold, IsStatus, IsBodySized}
 use Rattle.usb_trace_lines.proofs.FatesTold.{fate-of, length-fates}
-use Rattle.usb_trace.specs.Journals.{is_gone, wants_whole, EachActs}
+use Rattle.usb_kernel.specs.Acts.{is_gone, wants_whole, EachActs}
 use Rattle.usb_trace.proofs.Counted.{CountedFor, InRange, AllRanged, in-range}
 use Rattle.usb_trace.proofs.Whole.{whole-wants}
 

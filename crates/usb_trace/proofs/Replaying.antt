@@ -3,7 +3,7 @@ use Rattle.std.proofs.Common.{◌≡◌, ℕ, ◌+◌, zero, suc, true, false, L
 use Rattle.std.proofs.lemmas.List.{map-append, reverse-append}
 use Rattle.usb_kernel.specs.declared.event.Event.{Event}
 use Rattle.usb_kernel.specs.declared.event.Event.TheVariants.{Submit, Refuse, Packet, Ack, Echo, Fail, Discard, Reap, Unplug}
-use Rattle.usb_trace.specs.Journals.{acts}
+use Rattle.usb_kernel.specs.Acts.{acts}
 use Rattle.usb_trace.specs.Replays.{IsAppended, IsReplay, StopsAt}
 use Rattle.usb_trace_lines.specs.Capacities.{with_capacity, without_capacity}
 

@@ -6,7 +6,7 @@ use Rattle.usb_kernel.specs.declared.event.Body.TheVariants.{Wanted, Sent}
 use Rattle.usb_kernel.specs.Submissions.{WantsWhole}
 use Rattle.usb_kernel.specs.WholePackets.{is_whole}
 use Rattle.usb_kernel.proofs.Wholes.{whole-times}
-use Rattle.usb_trace.specs.Journals.{wants_whole}
+use Rattle.usb_kernel.specs.Acts.{wants_whole}
 
 by_equal : (t : Bool) (m n : ℕ) → eqb n m ≡ t → (t || is_whole m n) ≡ true → WantsWhole m (Wanted n)
 by_equal true m n same wants = (0, let is : n ≡ m = eqb-true n m same in rw is (omega arith))

@@ -1,7 +1,6 @@
 pub mod Begins
 pub mod Fails
 pub mod FirstOther
-pub mod Journals
 pub mod Lines
 pub mod Read
 pub mod Replays

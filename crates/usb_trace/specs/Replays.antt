@@ -10,7 +10,7 @@ use Rattle.usb_kernel_devices.specs.Errnos.{IsErrno}
 use Rattle.usb_kernel_devices.specs.declared.step.KernelStep.{KernelStep}
 use Rattle.usb_kernel_devices.specs.declared.step.KernelStep.TheVariants as step
 use Rattle.usb_trace_lines.specs.Capacities.{with_capacity, without_capacity}
-use Rattle.usb_trace.specs.Journals.{is_gone, acts, EachActs}
+use Rattle.usb_kernel.specs.Acts.{is_gone, acts, EachActs}
 
 -- a device is plugged unless the journal says that it is gone, and nothing is armed
 pub record IsReplaying (k : KernelState) : Type 0 where

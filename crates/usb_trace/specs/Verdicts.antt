@@ -4,7 +4,7 @@ use Rattle.std.specs.List.{All}
 use Rattle.usb_kernel.specs.declared.event.Event.{Event}
 use Rattle.usb_trace_lines.specs.Forms.{IsTold}
 use Rattle.usb_trace_lines.specs.Texts.{trace}
-use Rattle.usb_trace.specs.Journals.{EachActs}
+use Rattle.usb_kernel.specs.Acts.{EachActs}
 
 -- a text is the trace of such a journal, which is read from its latest event
 pub record IsTrace (text : List ℕ) : Type 0 where

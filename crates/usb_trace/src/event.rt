@@ -5,7 +5,7 @@ ghost use Rattle.usb_kernel.specs.declared.event.Event.{Event};
 ghost use Rattle.usb_kernel.specs.Submissions.{body_of, WantsWhole};
 ghost use Rattle.usb_kernel.specs.Steps.{stepped, after_discard, devices_stepped, armed_stepped, HasErrno};
 ghost use Rattle.usb_kernel_devices.specs.Errnos.{IsErrno};
-ghost use Rattle.usb_trace.specs.Journals.{acts, wants_whole};
+ghost use Rattle.usb_kernel.specs.Acts.{acts, wants_whole};
 ghost use Rattle.usb_trace.specs.Replays.{IsReplaying, IsAppended, IsBodyOf, CanBeDone, is_below, step_for};
 
 use std::alloc::Global;

@@ -2,6 +2,7 @@ use Rattle.std.proofs.Common.{◌≡◌, ◌∷◌, arith, refl, sym, ap, ◌∙
 use Rattle.usb_kernel.specs.declared.event.Event.TheVariants.{Ack}
 use Rattle.usb_kernel.specs.Rows.{Agrees}
 use Rattle.usb_kernel.specs.Steps.{after_ack}
+use Rattle.usb_kernel.proofs.Acts.{was-so}
 use Rattle.usb_kernel.proofs.Kept.{past_is, has_spare, spare-used, rest-spare, owed-left, has-room, kept-event, kept-quiet, used-one, less-spare}
 use Rattle.usb_kernel.proofs.kernel.Kernel.ack.Goals as goal
 
@@ -23,14 +24,14 @@ invariant_of-self g c =
     let acts : after_ack past c.args.device c.args.endpoint ≡ Ack c.args.device c.args.endpoint ∷ past = c.in-Some.ensures.acts past c.self.invariant.agrees in
     let agrees : Agrees (reverse c.put.new.journal.items) c.give_ack.new.self.rows = rw (c.put.ensures.items, ← acts) (c.in-Some.ensures.agrees past c.self.invariant.agrees) in
     let few = owed-left c.self.inside _ c.in-Some.freed c.self.invariant c.in-Some.ensures.places in
-    kept-event c.self.inside _ (Ack c.args.device c.args.endpoint) c.in-Some.freed c.self.invariant (c.put.ensures.lawful tt c.self.invariant.lawful) agrees (c.put.ensures.timed c.self.inside.deadlines.keys refl c.self.invariant.timed) c.put.ensures.items refl c.in-Some.ensures.places refl c.put.ensures.len c.put.ensures.capacity (used-one c.self.inside.spare c.self.inside.owed c.in-Some.freed (has_spare c.self.inside c.self.view_is c.requires.spare) few) (less-spare c.self.inside.spare) refl
+    kept-event c.self.inside _ (Ack c.args.device c.args.endpoint) c.in-Some.freed c.self.invariant (c.put.ensures.lawful tt c.self.invariant.lawful) (c.put.ensures.acts (was-so _ (Ack c.args.device c.args.endpoint) past acts) c.self.invariant.acts) (rw c.put.ensures.items c.self.invariant.gone) agrees (c.put.ensures.timed c.self.inside.deadlines.keys refl c.self.invariant.timed) c.put.ensures.items refl c.in-Some.ensures.places refl c.put.ensures.len c.put.ensures.capacity (used-one c.self.inside.spare c.self.inside.owed c.in-Some.freed (has_spare c.self.inside c.self.view_is c.requires.spare) few) (less-spare c.self.inside.spare) refl
 
 pub invariant_of-self-in_default : goal.invariant_of-self-in_default
 invariant_of-self-in_default g c =
     let past = reverse c.self.inside.journal.items in
     let acts : after_ack past c.args.device c.args.endpoint ≡ past = c.in_default.ensures.acts past c.self.invariant.agrees in
     let agrees : Agrees past c.give_ack.new.self.rows = rw acts at (c.in_default.ensures.agrees past c.self.invariant.agrees) in
-    kept-quiet c.self.inside _ c.self.invariant refl agrees refl c.in_default.ensures.places refl (less-spare c.self.inside.spare) refl
+    kept-quiet c.self.inside _ c.self.invariant refl c.self.invariant.gone agrees refl c.in_default.ensures.places refl (less-spare c.self.inside.spare) refl
 
 pub returns-in-Some : goal.returns-in-Some
 returns-in-Some g c =

@@ -1,5 +1,7 @@
 use Rattle.std.proofs.Common.{arith, reverse}
 use Rattle.usb_kernel.proofs.Completions.{tickets-discard}
+use Rattle.usb_kernel.proofs.Gone.{gone-behind_discard}
+use Rattle.usb_kernel.proofs.Acts.{acts-discard}
 use Rattle.usb_kernel.proofs.kernel.Kernel.discard_counted.Goals as goal
 
 pub invariant_of-self : goal.invariant_of-self
@@ -8,6 +10,8 @@ invariant_of-self g c =
     let past = reverse c.self.inside.journal.items in
     record {
       lawful = c.discard_ticket.ensures.lawful inv.lawful;
+      acts = rw c.discard_ticket.ensures.journal (acts-discard past c.args.ticket inv.acts);
+      gone = rw c.discard_ticket.ensures.journal (gone-behind_discard past c.args.ticket c.self.inside.devices.items inv.gone);
       agrees = c.discard_ticket.ensures.agrees;
       timed = c.discard_ticket.ensures.kept;
       owes = omega (arith, c.discard_ticket.ensures.places, inv.owes);

@@ -6,6 +6,7 @@ use Rattle.usb_kernel.specs.Timers.{without_deadline}
 use Rattle.usb_kernel.specs.Deadlines.{KeepsDeadlines}
 use Rattle.usb_kernel.specs.Steps.{after_reap}
 use Rattle.usb_kernel.proofs.StepLemmas.{after_reap-none, after_reap-some}
+use Rattle.usb_kernel.proofs.Acts.{reap-acts}
 use Rattle.usb_kernel.proofs.Kept.{past_is, rest-past, owed-left, has-room_owed, kept-event, kept-quiet, used-freed, same-spare}
 use Rattle.usb_kernel.proofs.Deadlines.{keeps-reaped}
 use Rattle.usb_kernel.proofs.kernel.Kernel.reap_ticket.Goals as goal
@@ -15,7 +16,7 @@ invariant_of-self g c =
     let past = reverse c.self.inside.journal.items in
     let none = c.in_err-done.ensures.done past c.self.invariant.agrees in
     let agrees : Agrees past c.take_finished.new.self.rows = rw (after_reap-none past c.args.ticket none) at (c.in_err-done.ensures.agrees past c.self.invariant.agrees) in
-    kept-quiet c.self.inside _ c.self.invariant refl agrees refl c.in_err-done.ensures.places refl (same-spare c.self.inside.spare) refl
+    kept-quiet c.self.inside _ c.self.invariant refl c.self.invariant.gone agrees refl c.in_err-done.ensures.places refl (same-spare c.self.inside.spare) refl
 
 pub returns-in_err-done-clause-past : goal.returns-in_err-done-clause-past
 returns-in_err-done-clause-past g c =
@@ -38,7 +39,7 @@ invariant_of-self-2 g c =
     let agrees : Agrees (reverse c.put.new.journal.items) c.take_finished.new.self.rows = rw (c.put.ensures.items, ← after_reap-some past c.args.ticket c.in_ok-done.done some) (c.in_ok-done.ensures.agrees past c.self.invariant.agrees) in
     let keys = c.forget_deadline.ensures.keys ∙ ap (λ o. without_deadline c.self.inside.deadlines.keys o c.args.ticket) (c.in_ok-done.ensures.deadline past c.self.invariant.agrees) in
     let timed : KeepsDeadlines (reverse c.put.new.journal.items) c.forget_deadline.new.deadlines.keys = rw (c.put.ensures.items, keys) (keeps-reaped past c.args.ticket c.in_ok-done.done c.self.inside.deadlines.keys some c.self.invariant.timed) in
-    kept-event c.self.inside _ (Reap c.args.ticket) 1 c.self.invariant (c.put.ensures.lawful tt c.self.invariant.lawful) agrees timed c.put.ensures.items refl c.in_ok-done.ensures.places refl c.put.ensures.len c.put.ensures.capacity (used-freed c.self.inside.spare c.self.inside.owed (owed-left c.self.inside _ 1 c.self.invariant c.in_ok-done.ensures.places)) (same-spare c.self.inside.spare) refl
+    kept-event c.self.inside _ (Reap c.args.ticket) 1 c.self.invariant (c.put.ensures.lawful tt c.self.invariant.lawful) (c.put.ensures.acts (reap-acts past c.args.ticket c.in_ok-done.done some) c.self.invariant.acts) (rw c.put.ensures.items c.self.invariant.gone) agrees timed c.put.ensures.items refl c.in_ok-done.ensures.places refl c.put.ensures.len c.put.ensures.capacity (used-freed c.self.inside.spare c.self.inside.owed (owed-left c.self.inside _ 1 c.self.invariant c.in_ok-done.ensures.places)) (same-spare c.self.inside.spare) refl
 
 pub returns : goal.returns
 returns g c =

@@ -7,6 +7,7 @@ use Rattle.usb_kernel.specs.Submissions.{refuse_event}
 use Rattle.usb_kernel.specs.Completions.{refused_done}
 use Rattle.usb_kernel.specs.Rows.{Agrees, owed}
 use Rattle.usb_kernel.proofs.Fresh.{tickets-refuse}
+use Rattle.usb_kernel.proofs.Acts.{refuse-acts}
 use Rattle.usb_kernel.proofs.Kept.{past_is, rest-past, view-ready, less-two, fits-places, room-more, number-small, kept-ready, kept-ticket, next-number}
 use Rattle.usb_kernel.proofs.kernel.Kernel.refuse.Goals as goal
 
@@ -14,7 +15,7 @@ pub overflow_add-places : goal.overflow_add-places
 overflow_add-places c = fits-places c.self.inside c.self.invariant
 
 pub invariant_of-self : goal.invariant_of-self
-invariant_of-self c = kept-ready c.self.inside _ c.self.invariant c.make_place.ensures.items c.make_place.ensures.len c.make_place.ensures.capacity c.make_place.ensures.rows refl refl refl refl
+invariant_of-self c = kept-ready c.self.inside _ c.self.invariant c.make_place.ensures.items c.make_place.ensures.len c.make_place.ensures.capacity refl c.make_place.ensures.rows refl refl refl refl
 
 pub returns-in_default : goal.returns-in_default
 returns-in_default c = record {
@@ -27,7 +28,7 @@ returns-in_default c = record {
 }
 
 pub invariant_of-self-in_default-refused : goal.invariant_of-self-in_default-refused
-invariant_of-self-in_default-refused c = kept-ready c.self.inside _ c.self.invariant c.make_place.ensures.items c.make_place.ensures.len c.make_place.ensures.capacity c.make_place.ensures.rows refl refl refl refl
+invariant_of-self-in_default-refused c = kept-ready c.self.inside _ c.self.invariant c.make_place.ensures.items c.make_place.ensures.len c.make_place.ensures.capacity refl c.make_place.ensures.rows refl refl refl refl
 
 pub returns-in_default-refused : goal.returns-in_default-refused
 returns-in_default-refused c = record {
@@ -62,7 +63,7 @@ invariant_of-self-2 c =
     let before : reverse c.make_place.new.journal.items ≡ past = ap (λ (xs : List Event). reverse xs) c.make_place.ensures.items in
     let timed = rw (event-put c) at (c.put.ensures.timed c.self.inside.deadlines.keys (rw c.in-Ok-refused.ensures.event refl) (rw before c.self.invariant.timed)) in
     let owes = c.self.invariant.owes ∙ (ap (sum_by owed) (sym c.make_place.ensures.rows) ∙ sym c.add_refused-done.ensures.places) in
-    kept-ticket c.self.inside _ c.make_place.new.journal (refuse_event n c.args.s c.args.errno) c.self.invariant c.requires.errno (c.add_refused-done.ensures.agrees past agrees) timed (event-put c) (tickets-refuse past c.args.s n c.args.errno) owes (less-two c.self.inside.owed) refl c.in-Ok.ensures.room c.in-Ok.ensures.four c.put.ensures.len c.put.ensures.capacity refl
+    kept-ticket c.self.inside _ c.make_place.new.journal (refuse_event n c.args.s c.args.errno) c.self.invariant c.requires.errno (refuse-acts past c.args.s c.args.errno) c.self.invariant.gone (c.add_refused-done.ensures.agrees past agrees) timed (event-put c) (tickets-refuse past c.args.s n c.args.errno) owes (less-two c.self.inside.owed) refl c.in-Ok.ensures.room c.in-Ok.ensures.four c.put.ensures.len c.put.ensures.capacity refl
 
 pub returns : goal.returns
 returns c =

@@ -9,4 +9,4 @@ pub overflow_sub-self : goal.overflow_sub-self
 overflow_sub-self g c = has_spare c.self.inside c.self.view_is c.requires.spare
 
 pub invariant_of-self : goal.invariant_of-self
-invariant_of-self g c = kept-quiet c.self.inside _ c.self.invariant refl c.self.invariant.agrees refl (no_more (sum_by owed c.self.inside.tickets.rows)) refl (less-spare c.self.inside.spare) refl
+invariant_of-self g c = kept-quiet c.self.inside _ c.self.invariant refl c.self.invariant.gone c.self.invariant.agrees refl (no_more (sum_by owed c.self.inside.tickets.rows)) refl (less-spare c.self.inside.spare) refl

@@ -7,6 +7,8 @@ use Rattle.usb_kernel.specs.Steps.{after_unplug}
 use Rattle.usb_kernel.specs.Value.{KernelState}
 use Rattle.usb_kernel.proofs.Freed.{no_more}
 use Rattle.usb_kernel.proofs.Lowest.{unreaped_count}
+use Rattle.usb_kernel.proofs.Gone.{gone-unplug, gone-still}
+use Rattle.usb_kernel.proofs.Acts.{unplug-acts}
 use Rattle.usb_kernel.proofs.Kept.{past_is, has_spare, devices_is, spare-used, rest-devices, owed-left, has-room, kept-event, kept-quiet, used-one, less-spare, after_unplug-some, after_unplug-none}
 use Rattle.usb_kernel.proofs.kernel.Kernel.unplug.Goals as goal
 
@@ -27,10 +29,10 @@ invariant_of-self g c =
     let past = reverse c.self.inside.journal.items in
     let agrees : Agrees (reverse c.put.new.journal.items) c.unplug_tickets.new.self.rows = rw c.put.ensures.items (c.unplug_tickets.ensures.agrees past c.self.invariant.agrees) in
     let few = owed-left c.self.inside _ c.unplug_tickets.result c.self.invariant c.unplug_tickets.ensures.places in
-    kept-event c.self.inside _ (Unplug c.args.device) c.unplug_tickets.result c.self.invariant (c.put.ensures.lawful tt c.self.invariant.lawful) agrees (c.put.ensures.timed c.self.inside.deadlines.keys refl c.self.invariant.timed) c.put.ensures.items refl c.unplug_tickets.ensures.places refl c.put.ensures.len c.put.ensures.capacity (used-one c.self.inside.spare c.self.inside.owed c.unplug_tickets.result (has_spare c.self.inside c.self.view_is c.requires.spare) few) (less-spare c.self.inside.spare) refl
+    kept-event c.self.inside _ (Unplug c.args.device) c.unplug_tickets.result c.self.invariant (c.put.ensures.lawful tt c.self.invariant.lawful) (c.put.ensures.acts (unplug-acts past c.self.inside.devices.items c.args.device c.self.invariant.gone (sym c.if-unplug_device.ensures.was)) c.self.invariant.acts) (rw (c.put.ensures.items, c.if-unplug_device.ensures.devices) (gone-unplug past c.self.inside.devices.items c.args.device c.self.invariant.gone)) agrees (c.put.ensures.timed c.self.inside.deadlines.keys refl c.self.invariant.timed) c.put.ensures.items refl c.unplug_tickets.ensures.places refl c.put.ensures.len c.put.ensures.capacity (used-one c.self.inside.spare c.self.inside.owed c.unplug_tickets.result (has_spare c.self.inside c.self.view_is c.requires.spare) few) (less-spare c.self.inside.spare) refl
 
 pub invariant_of-self-else-unplug_device : goal.invariant_of-self-else-unplug_device
-invariant_of-self-else-unplug_device g c = kept-quiet c.self.inside _ c.self.invariant refl c.self.invariant.agrees refl (no_more (sum_by owed c.self.inside.tickets.rows)) refl (less-spare c.self.inside.spare) refl
+invariant_of-self-else-unplug_device g c = kept-quiet c.self.inside _ c.self.invariant refl (rw c.if-unplug_device.ensures.devices (gone-still (reverse c.self.inside.journal.items) c.self.inside.devices.items c.args.device c.self.invariant.gone)) c.self.invariant.agrees refl (no_more (sum_by owed c.self.inside.tickets.rows)) refl (less-spare c.self.inside.spare) refl
 
 pub returns-then-unplug_device : goal.returns-then-unplug_device
 returns-then-unplug_device g c = record {
