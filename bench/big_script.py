@@ -301,6 +301,19 @@ def messages(_size):
         yield f"mreq m0 {'5a' * 100}\n! ack k0 02 ; ack k0 02\nmresp m0 : {packets}\n"
 
 
+def deadlines(_size):
+    """two transfers of an endpoint with deadlines, of which the timer discards the first and a packet finishes the other, again and again"""
+    yield IN
+    for number in itertools.count(1):
+        yield f"dsubmitin e0 64 1000\ndsubmitin e0 64 5000\n! clock {2000 * number} ; timer ; pkt k0 81 01 ; reap ; reap\npoll e0\npoll e0\n"
+
+
+def halts(_size):
+    """a reader whose transfer stalls: a read that fails, one that fails again, the halt that is cleared, and a read, again and again"""
+    yield f"{IN}reader r0 e0 64\nnum r0 1\n"
+    yield from itertools.repeat("read r0 64 : fail k0 81 32\nread r0 64\nhalt r0\nread r0 64 : pkt k0 81 5a5a\n")
+
+
 def comments(_size):
     """comments"""
     yield OPENED
@@ -312,7 +325,7 @@ KINDS = {
     for kind in (
         polls, cycles, behind, flight, cancels, waits, refused, armed, submitout, steps, claims, closes, owners, openings,
         refusals, descriptors, printed, attributes, again, matches, packets, control, futures, framed64, framed4096,
-        bytewise, written64, written4096, writes, echoed, messages, comments,
+        bytewise, written64, written4096, writes, echoed, messages, deadlines, halts, comments,
     )
 }
 
