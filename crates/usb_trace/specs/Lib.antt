@@ -1,6 +1,7 @@
 pub mod Begins
 pub mod Fails
 pub mod FirstOther
+pub mod Laws
 pub mod Lines
 pub mod Read
 pub mod Replays

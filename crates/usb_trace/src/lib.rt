@@ -5,8 +5,10 @@ mod check;
 mod error;
 mod event;
 mod journal;
+mod laws;
 mod text;
 
 pub use check::{Verdict, check_trace};
 pub use error::TraceError;
+pub use laws::{check_written, written_is_trace};
 pub use usb_trace_lines::{Failed, Lines, MAX_LINE, write_trace};
