@@ -10,14 +10,14 @@ ghost use Rattle.usb_io.specs.StreamFaults.{read_fault};
 ghost use Rattle.usb_io.specs.declared.fault.ReadFault.TheVariants.{UnexpectedEof};
 ghost use Rattle.usb_msg.specs.Requests.{messaging};
 ghost use Rattle.usb_msg.specs.Responses.{responded, ResponseFails, message_taken, without_message};
-ghost use Rattle.usb_msg.specs.Frames.{framed};
+ghost use Rattle.usb_msg.specs.Frames.{framed, body_in};
 ghost use Rattle.usb_msg.specs.Histories.{KeepsOn};
 
 use crate::client::MsgClient;
 use crate::error::{Ending, MsgError};
 use crate::faults::{read_fault, text_room};
 use crate::gathering::Gathered;
-use usb_desc::Fail;
+use usb_desc::{Fail, NoMemory};
 use usb_device_endpoint::Bus;
 use usb_xfer::BulkOrInterrupt;
 
@@ -38,6 +38,15 @@ impl<O: BulkOrInterrupt, I: BulkOrInterrupt> MsgClient<O, I> {
     {
         self.drop_message();
         self.ended = Some(ending);
+    }
+
+    /// The body of the message that has come: what stands behind its tag.
+    fn copy_body(&self) -> Result<Vec<u8>, NoMemory>
+        requires tag { 4 ≤ length self.now.frame }
+        ensures body { IfOk result (λ body. body.items ≡ body_in self.now.frame) }
+        ensures len { IfOk result (λ body. 4 + length body.items ≡ length self.now.frame) }
+    {
+        Ok(Vec::from_slice(self.allocator(), &self.frame[4..self.filled])?)
     }
 
     /// The body of the message that has come, which is taken off. Without memory it stays.
@@ -70,13 +79,13 @@ impl<O: BulkOrInterrupt, I: BulkOrInterrupt> MsgClient<O, I> {
             self.refuse_message(Ending::WrongTag { expected, got });
             return Err(MsgError::WrongTag { expected, got });
         }
-        match Vec::from_slice(self.allocator(), &self.frame[4..len]) {
+        match self.copy_body() {
             Ok(body) => {
                 self.drop_message();
                 self.responses += 1;
                 Ok(body)
             }
-            Err(_) => Err(MsgError::Memory),
+            Err(NoMemory) => Err(MsgError::Memory),
         }
     }
 
