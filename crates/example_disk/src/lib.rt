@@ -1,11 +1,16 @@
 //! A driver of one partition of a disk, by Bulk-Only Transport: to be copied. It asks for no block
 //! outside its partition.
+//!
+//! The tests (`tests.rt`) run it on a disk that is simulated, by the crate `usb_bot_disk`.
 #![tactic(auto)]
 
-ghost use Rattle.std.specs.Prelude.{◌≡◌, ◌+◌, ◌≤◌, ◌^◌, ◌↔◌, IsErrOf, IfOk, IfErr, OnErr, length};
+ghost use Rattle.std.specs.Prelude.{◌≡◌, ◌+◌, ◌<◌, ◌≤◌, ◌^◌, ◌↔◌, IsErrOf, IfOk, IfErr, IfSome, IsSome, length};
 ghost use Rattle.usb_device_endpoint.specs.Closes.{after_close};
 ghost use Rattle.usb_bot.specs.Clients.{StandBoth, KeepsFurther};
 ghost use Rattle.example_disk.specs.Partitions.{IsRead, IsWritten, ReadFailsBy, WriteFailsBy};
+
+#[cfg(test)]
+mod tests;
 
 use std::marker::Model;
 use usb_bot::{BotClient, BotError};
@@ -69,6 +74,18 @@ impl Partition {
         self.blocks
     }
 
+    /// Which block of the disk the block of this number is, where there is one.
+    fn on_disk(&self, block: u32) -> Option<u32>
+        ensures place { IfSome result (λ place. place ≡ self.now.first + block) }
+        ensures inside { IsSome result ↔ (block < self.now.blocks) }
+    {
+        if block < self.blocks {
+            Some(self.first + block)
+        } else {
+            None
+        }
+    }
+
     /// Reads the block of this number.
     ///
     /// # Errors
@@ -88,10 +105,10 @@ impl Partition {
         ensures handles { B.handles_stand bus.old bus.new }
         ensures rest { self.new ≡ record self.old { client = self.new.client } }
     {
-        if block >= self.blocks {
+        let Some(place) = self.on_disk(block) else {
             return Err(Fault::Outside);
-        }
-        Ok(self.client.read(bus, self.first + block, 1)?)
+        };
+        Ok(self.client.read(bus, place, 1)?)
     }
 
     /// Writes the block of this number.
@@ -113,10 +130,10 @@ impl Partition {
         ensures handles { B.handles_stand bus.old bus.new }
         ensures rest { self.new ≡ record self.old { client = self.new.client } }
     {
-        if block >= self.blocks {
+        let Some(place) = self.on_disk(block) else {
             return Err(Fault::Outside);
-        }
-        self.client.write(bus, self.first + block, bytes)?;
+        };
+        self.client.write(bus, place, bytes)?;
         Ok(())
     }
 
