@@ -109,7 +109,7 @@ fn answers_calls_on_devices_and_interfaces(rt: HostRuntime) -> Result<(), Fail> 
 }
 
 /// Whole scripts on a device of two settings and two configurations, and on one of two endpoints.
-const HOSTS: [(&str, &str, &str); 7] = [
+const HOSTS: [(&str, &str, &str); 9] = [
     (
         "a claim that detached the driver attaches it",
         "device k0 1 6 3 1 1201000200000040aaaabbbb0001000000020902290001010080320904000001ff000000070581024000000904000101ff000000070581024000000902120001020080320904010000ff000000\n\
@@ -366,6 +366,47 @@ const HOSTS: [(&str, &str, &str); 7] = [
          ok\n\
          error Busy interface is busy (errno 16)\n\
          ok\n\
+         ok\n",
+    ),
+    (
+        "the direction of an endpoint is looked at before its type, and its type before its use",
+        "device k0 1 6 3 1 1201000200000040aaaabbbb0001000000010902200001010080320904000002ff0000000705810340000007050202400000\n\
+         open d0 1 6\n\
+         claim d0 0 i0\n\
+         endpoint e0 i0 81 int-out\n\
+         endpoint e0 i0 81 bulk-in\n\
+         endpoint e0 i0 02 int-in\n\
+         endpoint e0 i0 02 int-out\n\
+         endpoint e0 i0 81 int-in\n\
+         endpoint e1 i0 81 bulk-in\n\
+         endpoint e1 i0 81 int-in\n\
+         submitin e0 64\n\
+         ! pkt k0 81 0102 ; reap\n\
+         poll e0\n",
+        "ok\n\
+         ok\n\
+         error Other incorrect endpoint direction\n\
+         error Other incorrect endpoint type\n\
+         error Other incorrect endpoint direction\n\
+         error Other incorrect endpoint type\n\
+         ok\n\
+         error Other incorrect endpoint type\n\
+         error Busy endpoint already in use\n\
+         ok\n\
+         done ok 2 64 0102\n\
+         ticket 0 k0 81 ok 2 taken\n",
+    ),
+    (
+        "armed refusals of an open",
+        "device k0 1 6 3 1 1201000200000040aaaabbbb0001000000010902200001010080320904000002ff0000000705810240000007050202400000\n\
+         ! refuse k0 open 1 ; refuse k0 open 19 ; refuse k0 open 2\n\
+         open d0 1 6\n\
+         open d0 1 6\n\
+         open d0 1 6\n\
+         open d0 1 6\n",
+        "error PermissionDenied permission denied (errno 1)\n\
+         error Other failed to open device (errno 19)\n\
+         error Disconnected device not found (errno 2)\n\
          ok\n",
     ),
 ];

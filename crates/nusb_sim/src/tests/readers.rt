@@ -335,7 +335,7 @@ fn reads_messages_with_their_ends_and_faults(rt: HostRuntime) -> Result<(), Fail
 }
 
 /// Polls, fills, timeouts, and what becomes of the endpoint.
-const FURTHER: [(&str, &str, &str); 10] = [
+const FURTHER: [(&str, &str, &str); 11] = [
     (
         "polls of a reader",
         "reader r0 e0 64\n\
@@ -527,6 +527,25 @@ const FURTHER: [(&str, &str, &str); 10] = [
          count 1\n\
          ticket 0 k0 02 cancelled 0 reclaimed\n\
          ticket 1 k0 81 cancelled 0 reclaimed\n",
+    ),
+    (
+        "a transfer whose length was refused is the fault that lasts",
+        "submitin e0 100\n\
+         reader r0 e0 64\n\
+         read r0 5\n\
+         sread r0 5\n\
+         isend r0\n\
+         halt r0\n\
+         read r0 5 : pkt k0 81 0a\n",
+        "ok\n\
+         ok\n\
+         io InvalidInput invalid or unsupported argument\n\
+         io InvalidInput invalid or unsupported argument\n\
+         end false\n\
+         ok\n\
+         read 1 0a\n\
+         ticket 0 k0 81 invalid 0 taken\n\
+         ticket 1 k0 81 ok 1 taken\n",
     ),
 ];
 

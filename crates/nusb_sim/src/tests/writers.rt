@@ -458,7 +458,7 @@ fn writes_messages_with_their_ends_and_faults(rt: HostRuntime) -> Result<(), Fai
 }
 
 /// Waits, buffers that are used again, conditions, and what becomes of the endpoint.
-const FURTHER: [(&str, &str, &str); 8] = [
+const FURTHER: [(&str, &str, &str); 9] = [
     (
         "a write waits for the transfer before it and uses its buffer again",
         "endpoint e0 i0 02 bulk-out\n\
@@ -698,6 +698,20 @@ const FURTHER: [(&str, &str, &str); 8] = [
          ok\n\
          ticket 0 k0 02 ok 0 dropped\n\
          ticket 1 k0 02 cancelled 0 reclaimed\n",
+    ),
+    (
+        "a transfer that failed as cancelled is a failure",
+        "endpoint e0 i0 02 bulk-out\n\
+         writer w0 e0 64\n\
+         write w0 0102\n\
+         flush w0 : fail k0 02 104\n\
+         flush w0\n",
+        "ok\n\
+         ok\n\
+         wrote 2\n\
+         io Interrupted transfer was cancelled\n\
+         ok\n\
+         ticket 0 k0 02 cancelled 0 taken\n",
     ),
 ];
 
