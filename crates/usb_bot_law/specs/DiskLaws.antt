@@ -54,7 +54,8 @@ abbrev pub zeros : ℕ → List ℕ
 zeros n = replicate (512 * n) 0
 
 -- a new disk of so many blocks, and a new client of two endpoints
-abbrev pub new_disk : HostState → ℕ → ℕ → ℕ → ℕ → EndpointState → EndpointState → Commanding DiskState
+abbrev pub new_disk : HostState → ℕ → ℕ → ℕ → ℕ → EndpointState → EndpointState →
+    Commanding DiskState
 new_disk h n d out inp e f = commanding (disk_made h (zeros n) d out inp) (fresh_client e f)
 
 -- whatever calls are made of a new client at a new disk of so many blocks, each has the answer of a

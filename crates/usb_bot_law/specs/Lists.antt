@@ -63,7 +63,8 @@ AreOfList blocks (call ∷ calls) = IsOfList blocks call × AreOfList (list_afte
 -- one of these calls was a write that lacked memory and broke the client: behind the calls before it
 -- (before) the client was served, and the disk had these blocks; it left bus and client as they are,
 -- and its data stand in the blocks
-pub record SpoiledBy (calls : List Answered) (first : Commanding DiskState) (blocks : List ℕ) (left : Commanding DiskState) : Type 0 where
+pub record SpoiledBy (calls : List Answered) (first : Commanding DiskState) (blocks : List ℕ)
+    (left : Commanding DiskState) : Type 0 where
   pub before : List Answered
   pub block : ℕ
   pub bytes : List ℕ
@@ -78,7 +79,8 @@ pub record SpoiledBy (calls : List Answered) (first : Commanding DiskState) (blo
 
 -- what is left of bus and client (first) behind calls: the disk has these blocks, and the client goes
 -- on or is broken by want of memory; or the data of the write that broke it stand in them too
-abbrev pub HoldsList : List Answered → Commanding DiskState → List ℕ → Commanding DiskState → Type 0
+abbrev pub HoldsList : List Answered → Commanding DiskState → List ℕ → Commanding DiskState →
+    Type 0
 HoldsList calls first blocks left =
     Serves left.bus left.client blocks
     ⊎ (Spoiled left.bus left.client blocks ⊎ SpoiledBy calls first blocks left)
