@@ -13,6 +13,13 @@ use usb_desc::{NoMemory, TransferType};
 use usb_kernel::{Body, Bytes, Event, Kernel, KernelStep, Submission, Submitted};
 use usb_xfer::Buffer;
 
+/// Whether a kernel's journal has more events than before.
+fn has_grown(kernel: &Kernel, before: usize) -> bool
+    ensures more { result ≡ nat_lt before (length kernel.now.past) }
+{
+    before < kernel.journal().len()
+}
+
 /// Applies a step, and answers whether it acted.
 fn acts(kernel: &mut Kernel, step: KernelStep) -> bool
     requires spare { 1 ≤ kernel.old.spare }
@@ -26,7 +33,7 @@ fn acts(kernel: &mut Kernel, step: KernelStep) -> bool
 {
     let before = kernel.journal().len();
     let _ = kernel.step_once(step);
-    before < kernel.journal().len()
+    has_grown(kernel, before)
 }
 
 /// Whether a body wants whole packets.
@@ -150,9 +157,9 @@ fn discard(kernel: &mut Kernel, ticket: u64) -> bool
     ensures replaying { IsTrue result → IsReplaying kernel.new }
     ensures spare { kernel.new.spare ≡ kernel.old.spare }
 {
-    let count = kernel.journal().len();
+    let before = kernel.journal().len();
     kernel.discard(ticket);
-    count < kernel.journal().len()
+    has_grown(kernel, before)
 }
 
 /// The step as which an event came.
