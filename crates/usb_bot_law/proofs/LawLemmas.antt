@@ -1,15 +1,15 @@
 -- The laws of disks and their clients.
-use Rattle.std.proofs.Common.{◌≡◌, ℕ, suc, ◌+◌, ◌*◌, ◌/◌, ◌≤◌, List, [], ◌∷◌, length, replicate, Option, None, Result, Ok, Err, refl, sym, ap, ◌∙◌, arith, subst, inl, inr}
+use Rattle.std.proofs.Common.{◌≡◌, ℕ, ◌+◌, ◌*◌, ◌/◌, ◌≤◌, List, [], ◌∷◌, length, Option, None, Result, Ok, Err, refl, sym, ap, ◌∙◌, arith, subst, inl, inr}
 use Rattle.std.proofs.lemmas.Option.{none-some}
 use Rattle.usb_xfer.specs.BufferState.{BufferState}
 use Rattle.usb_bot.specs.declared.error.BotError.{BotError}
 use Rattle.usb_bot.specs.declared.error.BotError.TheVariants as error
 use Rattle.usb_bot.specs.declared.wrapper.Command.{Command}
 use Rattle.usb_bot.specs.declared.wrapper.Operation.TheVariants.{Read, Write}
-use Rattle.usb_bot.specs.Clients.{ClientState, fresh_client}
+use Rattle.usb_bot.specs.Clients.{ClientState}
 use Rattle.usb_bot.specs.Commands.{Commanding, commanding, outcome, asks, sends, next_command, written, commanded, unless_broken, all_staged}
 use Rattle.usb_bot_disk.specs.Blocks.{overwritten}
-use Rattle.usb_bot_disk.specs.DiskState.{DiskState, disk_made}
+use Rattle.usb_bot_disk.specs.DiskState.{DiskState}
 use Rattle.usb_bot_disk.specs.DiskCalls.{disk_calls}
 use Rattle.usb_bot_law.specs.Serving.{Serves, Spoiled}
 use Rattle.usb_bot_law.specs.Steps.{HasRead, HasWritten, ReadLeaves, WriteLeaves}
