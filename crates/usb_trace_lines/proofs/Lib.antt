@@ -4,4 +4,5 @@ mod Going
 pub mod LinesRead
 pub mod Splits
 pub mod Told
+pub mod Typed
 mod WordsRead

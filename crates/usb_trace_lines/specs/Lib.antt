@@ -1,7 +1,9 @@
 pub mod Capacities
+pub mod Directions
 pub mod Fates
 pub mod Forms
 pub mod Order
 pub mod Readings
 pub mod Texts
+pub mod Types
 pub mod Written
