@@ -1,4 +1,5 @@
 mod Digits
+pub mod Each
 pub mod FatesTold
 mod Going
 pub mod LinesRead

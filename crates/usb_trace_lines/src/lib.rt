@@ -10,6 +10,7 @@ mod order;
 mod reading;
 mod sized;
 mod telling;
+mod types;
 mod words;
 mod writing;
 
@@ -19,4 +20,5 @@ pub use lines::{Failed, Lines, MAX_LINE};
 pub use order::Phase;
 pub use sized::can_be_written;
 pub use telling::{LineText, read_line};
+pub use types::journal_is_typed;
 pub use writing::write_trace;

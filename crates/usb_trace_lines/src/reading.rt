@@ -51,7 +51,7 @@ fn ticket(word: &[u8]) -> Result<u64, LineError>
 }
 
 /// What a slice of bytes holds is bytes.
-fn are_bytes(bytes: &[u8]) -> usize
+pub(crate) fn are_bytes(bytes: &[u8]) -> usize
     ensures all { IsBytes bytes.now }
     ensures len { result ≡ length bytes.now }
 {

@@ -8,10 +8,12 @@ ghost use Rattle.usb_kernel.specs.Tickets.{tickets};
 ghost use Rattle.usb_trace_lines.specs.Fates.{fates_of};
 ghost use Rattle.usb_trace_lines.specs.Forms.{IsSized, IsBodySized};
 ghost use Rattle.usb_trace_lines.specs.Texts.{direction_word, body_word, deadline_word, fate_word, event_text, fate_text, trace};
+ghost use Rattle.usb_trace_lines.specs.Types.{IsTyped};
 ghost use Rattle.usb_trace_lines.specs.Written.{begun_with, ended_line, HasWritten, HasStopped};
 
 use crate::fate_line::FateLine;
 use crate::lines::{Failed, Lines};
+use crate::types::event_is_typed;
 use crate::words::{put_bytes, put_endpoint, put_number, put_word};
 use itoa::Buffer;
 use usb_kernel::{Body, Event, Kernel};
@@ -185,8 +187,10 @@ fn write_events<K: Lines>(out: &mut K, events: &[Event]) -> Result<(), Failed>
         (HasWritten (K.state out.old) (K.state out.new) (flat_map event_text events.now)) }
     ensures err { OnErr result
         (HasStopped (K.state out.old) (K.state out.new) (flat_map event_text events.now)) }
+    ensures typed { OnOk result (All IsTyped events.now) }
 {
     for event in events {
+        event_is_typed(event);
         write_event(out, event)?;
     }
     Ok(())
@@ -290,6 +294,7 @@ pub fn write_trace<K: Lines>(kernel: &Kernel, out: &mut K) -> Result<(), Failed>
         (HasWritten (K.state out.old) (K.state out.new) (trace kernel.now.past)) }
     ensures err { OnErr result
         (HasStopped (K.state out.old) (K.state out.new) (trace kernel.now.past)) }
+    ensures typed { OnOk result (All IsTyped kernel.now.past) }
 {
     write_line(out, b"nusb-trace 1")?;
     write_events(out, kernel.journal())?;

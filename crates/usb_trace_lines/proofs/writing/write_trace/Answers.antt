@@ -4,7 +4,9 @@ use Rattle.std.proofs.lemmas.Result.{err_from_is_err_and, on_ok_weaker, on_err_w
 use Rattle.usb_kernel.specs.declared.event.Event.{Event}
 use Rattle.usb_trace_lines.specs.Fates.{fates_of}
 use Rattle.usb_trace_lines.specs.Texts.{first_line, last_line, event_text, fate_text, trace}
+use Rattle.usb_trace_lines.specs.Types.{IsTyped}
 use Rattle.usb_trace_lines.specs.Written.{LinesState, HasWritten}
+use Rattle.usb_trace_lines.proofs.Each.{all-forward}
 use Rattle.usb_trace_lines.proofs.FatesTold.{trace-parts}
 use Rattle.usb_trace_lines.proofs.Going.{Going, going-start, going-on, going-cut, going-all}
 use Rattle.usb_trace_lines.proofs.writing.write_trace.Goals as goal
@@ -63,3 +65,9 @@ returns-clause-err g c =
     let past = c.args.kernel.now.past in
     let going = after_fates (g.K.Lines.state c.args.out.now) (g.K.Lines.state c.write_line.new.out) (g.K.Lines.state c.write_events.new.out) (g.K.Lines.state c.write_fates.new.out) past c.requires.empty c.in_ok-write_line.ensures.ok (rw c.journal.ensures.events at c.in_ok-write_events.ensures.ok) c.in_ok-write_fates.ensures.ok in
     on_err_weaker c.write_line-2.result (λ f. going-cut (g.K.Lines.state c.write_line-2.new.out) last_line [] going f (append-nil last_line)) c.write_line-2.ensures.err
+
+pub returns-clause-typed : goal.returns-clause-typed
+returns-clause-typed g c =
+    let past = c.args.kernel.now.past in
+    let typed = all-forward IsTyped past (rw c.journal.ensures.events at c.in_ok-write_events.ensures.typed) in
+    on_ok_weaker c.write_line-2.result (λ w. typed) c.write_line-2.ensures.ok
