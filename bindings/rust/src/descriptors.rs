@@ -1,19 +1,25 @@
 //! Descriptors: what a device tells of itself (USB 2.0, section 9.6).
+//!
+//! Where the library `usb_core_c` is linked its proved walks tell where each descriptor stands: a
+//! device, a configuration, a setting, an endpoint, and the next one of raw descriptors. No library
+//! lends bytes, so the iterators here cut them out at these places. A field is read at its place in
+//! the bytes, and `interfaces` puts settings together by their number. Where no library is linked
+//! src/walk.rs tells the places, and the tests compare the two.
 
+#[cfg(usb_core_c)]
+use crate::proved as walk;
 use crate::transfer::Direction;
+#[cfg(not(usb_core_c))]
+use crate::walk;
 use std::collections::BTreeMap;
 use std::fmt;
 use std::num::NonZeroU8;
 use std::ops::Deref;
 
-const DEVICE_TYPE: u8 = 1;
-const CONFIGURATION_TYPE: u8 = 2;
 const INTERFACE_TYPE: u8 = 4;
 const ENDPOINT_TYPE: u8 = 5;
-const DEVICE_LENGTH: usize = 18;
-const CONFIGURATION_LENGTH: usize = 9;
-const INTERFACE_LENGTH: usize = 9;
-const ENDPOINT_LENGTH: usize = 7;
+const INTERFACE_LENGTH: u8 = 9;
+const ENDPOINT_LENGTH: u8 = 7;
 
 /// Languages of strings.
 pub mod language_id {
@@ -72,19 +78,13 @@ impl<'a> DescriptorIter<'a> {
     pub fn as_bytes(&self) -> &'a [u8] {
         self.0
     }
-
-    /// The first one and the rest. There is none where its length is below 2, or counts past the end.
-    fn split_first(&self) -> Option<(&'a [u8], &'a [u8])> {
-        let length = usize::from(*self.0.first()?);
-        (length >= 2 && length <= self.0.len()).then(|| self.0.split_at(length))
-    }
 }
 
 impl<'a> Iterator for DescriptorIter<'a> {
     type Item = Descriptor<'a>;
 
     fn next(&mut self) -> Option<Descriptor<'a>> {
-        let (first, rest) = self.split_first()?;
+        let (first, rest) = self.0.split_at(walk::descriptor_len(self.0)?);
         self.0 = rest;
         Some(Descriptor(first))
     }
@@ -94,42 +94,31 @@ impl<'a> Iterator for DescriptorIter<'a> {
 /// too short is left out, and a descriptor of two bytes ends a group.
 #[derive(Clone)]
 struct Groups<'a> {
-    rest: DescriptorIter<'a>,
+    rest: &'a [u8],
     kind: u8,
-    shortest: usize,
+    least: u8,
 }
 
 impl<'a> Iterator for Groups<'a> {
     type Item = &'a [u8];
 
     fn next(&mut self) -> Option<&'a [u8]> {
-        let head = loop {
-            let bytes = self.rest.as_bytes();
-            let head = self.rest.next()?;
-            if head.descriptor_type() == self.kind && head.descriptor_len() >= self.shortest {
-                break bytes;
-            }
-        };
-        while let Some((next, behind)) = self.rest.split_first() {
-            if next.len() == 2 || next[1] == self.kind {
-                break;
-            }
-            self.rest = DescriptorIter(behind);
-        }
-        Some(&head[..head.len() - self.rest.as_bytes().len()])
+        let group = walk::group(self.rest, self.kind, self.least)?;
+        let (front, rest) = self.rest.split_at(group.end);
+        self.rest = rest;
+        Some(&front[group.start..])
     }
 }
 
 /// What a device tells of itself (USB 2.0, table 9-8).
 #[derive(Clone)]
-pub struct DeviceDescriptor([u8; DEVICE_LENGTH]);
+pub struct DeviceDescriptor([u8; 18]);
 
 impl DeviceDescriptor {
     /// The device descriptor at the front of these bytes.
     pub fn new(bytes: &[u8]) -> Option<Self> {
-        let bytes: [u8; DEVICE_LENGTH] = bytes.get(..DEVICE_LENGTH)?.try_into().ok()?;
-        let is_valid = usize::from(bytes[0]) >= DEVICE_LENGTH && bytes[1] == DEVICE_TYPE;
-        is_valid.then_some(DeviceDescriptor(bytes))
+        let bytes = bytes.first_chunk().filter(|it| walk::is_device(*it))?;
+        Some(DeviceDescriptor(*bytes))
     }
 
     /// Its bytes.
@@ -231,14 +220,8 @@ impl<'a> ConfigurationDescriptor<'a> {
     /// as its total length says.
     #[allow(clippy::new_ret_no_self)]
     pub fn new(bytes: &[u8]) -> Option<ConfigurationDescriptor<'_>> {
-        let head = bytes.get(..CONFIGURATION_LENGTH)?;
-        let length = usize::from(head[0]);
-        let total = usize::from(word_at(head, 2));
-        let is_valid = length >= CONFIGURATION_LENGTH
-            && head[1] == CONFIGURATION_TYPE
-            && total >= length
-            && total <= bytes.len();
-        is_valid.then(|| ConfigurationDescriptor(&bytes[..total]))
+        let length = walk::configuration_len(bytes)?;
+        Some(ConfigurationDescriptor(&bytes[..length]))
     }
 
     /// The bytes of the whole configuration.
@@ -253,8 +236,8 @@ impl<'a> ConfigurationDescriptor<'a> {
 
     /// All settings of its interfaces, in the order of their descriptors.
     pub fn interface_alt_settings(&self) -> impl Iterator<Item = InterfaceDescriptor<'a>> {
-        let groups =
-            Groups { rest: self.descriptors(), kind: INTERFACE_TYPE, shortest: INTERFACE_LENGTH };
+        let rest = self.descriptors().as_bytes();
+        let groups = Groups { rest, kind: INTERFACE_TYPE, least: INTERFACE_LENGTH };
         groups.map(InterfaceDescriptor)
     }
 
@@ -354,8 +337,8 @@ impl<'a> InterfaceDescriptor<'a> {
 
     /// Its endpoints, in the order of their descriptors.
     pub fn endpoints(&self) -> impl Iterator<Item = EndpointDescriptor<'a>> {
-        let groups =
-            Groups { rest: self.descriptors(), kind: ENDPOINT_TYPE, shortest: ENDPOINT_LENGTH };
+        let rest = self.descriptors().as_bytes();
+        let groups = Groups { rest, kind: ENDPOINT_TYPE, least: ENDPOINT_LENGTH };
         groups.map(EndpointDescriptor)
     }
 

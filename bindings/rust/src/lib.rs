@@ -29,6 +29,8 @@ pub mod sim;
 mod told;
 pub mod transfer;
 mod tree;
+#[cfg(any(test, not(usb_core_c)))]
+mod walk;
 mod words;
 
 pub use device::{Device, Interface};

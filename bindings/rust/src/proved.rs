@@ -5,6 +5,7 @@
 #![allow(unsafe_code)]
 
 use crate::answers::Answers;
+use std::ops::Range;
 
 /// What the call for a script came to, as the library tells it.
 #[repr(C)]
@@ -74,6 +75,22 @@ pub struct Endpoint {
     pub max_packet_size: usize,
 }
 
+/// A part of some bytes, as the library tells it.
+#[repr(C)]
+#[derive(Clone, Copy, Debug, Default, PartialEq, Eq)]
+struct Part {
+    start: usize,
+    len: usize,
+}
+
+/// What the call for the text of a string descriptor came to, as the library tells it.
+#[repr(C)]
+#[derive(Clone, Copy, Debug, Default, PartialEq, Eq)]
+struct TextTold {
+    status: u8,
+    len: usize,
+}
+
 unsafe extern "C" {
     fn usb_core_answer(
         script: *const u8,
@@ -92,6 +109,16 @@ unsafe extern "C" {
         number: usize,
         out: *mut Endpoint,
     ) -> bool;
+    fn usb_core_descriptor_len(bytes: *const u8, len: usize) -> usize;
+    fn usb_core_configuration_len(bytes: *const u8, len: usize) -> usize;
+    fn usb_core_group(bytes: *const u8, len: usize, kind: u8, least: u8, out: *mut Part) -> bool;
+    fn usb_core_string(
+        bytes: *const u8,
+        len: usize,
+        out: *mut u8,
+        out_len: usize,
+        told: *mut TextTold,
+    );
 }
 
 /// The library as what answers scripts, in this process.
@@ -185,4 +212,61 @@ pub fn settings(bytes: &[u8]) -> impl Iterator<Item = Setting> + '_ {
 /// The endpoints of the setting with this index, in the order of their descriptors.
 pub fn endpoints(bytes: &[u8], index: usize) -> impl Iterator<Item = Endpoint> + '_ {
     (0..).map_while(move |number| endpoint(bytes, index, number))
+}
+
+/// Whether a device descriptor stands at the front of these bytes.
+#[must_use]
+pub fn is_device(bytes: &[u8]) -> bool {
+    device(bytes).is_some()
+}
+
+/// How many bytes the descriptor at the front of these bytes has.
+#[must_use]
+pub fn descriptor_len(bytes: &[u8]) -> Option<usize> {
+    // SAFETY: as in `count_settings`.
+    let len = unsafe { usb_core_descriptor_len(bytes.as_ptr(), bytes.len()) };
+    (len > 0).then_some(len)
+}
+
+/// How many bytes the configuration at the front of these bytes has.
+#[must_use]
+pub fn configuration_len(bytes: &[u8]) -> Option<usize> {
+    // SAFETY: as in `count_settings`.
+    let len = unsafe { usb_core_configuration_len(bytes.as_ptr(), bytes.len()) };
+    (len > 0).then_some(len)
+}
+
+/// Where the first group of a type stands: a descriptor of at least so many bytes, and those behind
+/// it that belong to it.
+#[must_use]
+pub fn group(bytes: &[u8], kind: u8, least: u8) -> Option<Range<usize>> {
+    let mut part = Part::default();
+    // SAFETY: as in `device`.
+    let is_there =
+        unsafe { usb_core_group(bytes.as_ptr(), bytes.len(), kind, least, &raw mut part) };
+    is_there.then(|| part.start..part.start + part.len)
+}
+
+/// The text of a string descriptor. There is none where the bytes are no string descriptor.
+///
+/// # Panics
+///
+/// Where memory is lacking.
+#[must_use]
+pub fn string(bytes: &[u8]) -> Option<String> {
+    // A string descriptor has at most 126 units of UTF-16, and each makes at most three bytes.
+    let mut room = vec![0; 3 * 126];
+    let mut told = TextTold::default();
+    // SAFETY: pointers and lengths are those of two slices, one of which may be written to, and
+    // `told` is a whole struct of the same layout. All are lent for the call alone.
+    unsafe {
+        usb_core_string(bytes.as_ptr(), bytes.len(), room.as_mut_ptr(), room.len(), &raw mut told);
+    }
+    match told.status {
+        0 => room.truncate(told.len),
+        3 => return None,
+        6 => unreachable!("there is room for every text"),
+        _ => panic!("out of memory"),
+    }
+    Some(String::from_utf8(room).expect("the library writes UTF-8"))
 }
