@@ -1,76 +1,31 @@
-//! The walks over descriptors, on the questions and answers that the repository's tests have.
+//! Descriptors, on the questions and answers that the repository's tests have.
 
-use usb_host_core::descriptors::{
-    ConfigurationDescriptor, DeviceDescriptor, EndpointDescriptor, InterfaceDescriptor,
-    TransferType,
-};
+mod answers;
 
-const FILES: [&str; 2] = [
+use usb_host_core::descriptors::{ConfigurationDescriptor, DeviceDescriptor};
+
+const FILES: [&str; 3] = [
     include_str!("../../../crates/test_formats/src/descriptors/examples.rt"),
     include_str!("../../../crates/test_formats/src/descriptors/questions.rt"),
+    include_str!("questions.txt"),
 ];
 
-/// The rows of a kind, each of a question in hexadecimal digits and its answer.
-fn rows(kind: &str) -> Vec<(Vec<u8>, &'static str)> {
+/// The rows, each of a word, bytes and their answer.
+fn rows() -> impl Iterator<Item = (&'static str, Vec<u8>, &'static str)> {
     let lines = FILES.iter().flat_map(|file| file.lines());
-    let rows = lines.filter_map(|line| line.strip_prefix(kind)?.split_once(" = "));
-    rows.map(|(question, answer)| (bytes_of(question), answer)).collect()
-}
-
-fn bytes_of(digits: &str) -> Vec<u8> {
-    let pairs = digits.as_bytes().chunks_exact(2);
-    let pairs = pairs.map(|pair| std::str::from_utf8(pair).unwrap());
-    pairs.map(|pair| u8::from_str_radix(pair, 16).unwrap()).collect()
-}
-
-fn endpoint_words(endpoint: &EndpointDescriptor<'_>) -> String {
-    let kind = match endpoint.transfer_type() {
-        TransferType::Control => "control",
-        TransferType::Isochronous => "iso",
-        TransferType::Bulk => "bulk",
-        TransferType::Interrupt => "interrupt",
-    };
-    let (address, max) = (endpoint.address(), endpoint.max_packet_size());
-    format!(" ep {address:02x} {kind} {max} {}", endpoint.interval())
-}
-
-fn setting_words(setting: &InterfaceDescriptor<'_>) -> String {
-    let endpoints: String = setting.endpoints().map(|it| endpoint_words(&it)).collect();
-    let (number, alternate) = (setting.interface_number(), setting.alternate_setting());
-    let codes = (setting.class(), setting.subclass(), setting.protocol());
-    format!(" if {number}.{alternate} {:02x} {:02x} {:02x}{endpoints}", codes.0, codes.1, codes.2)
-}
-
-fn configuration_words(configuration: &ConfigurationDescriptor<'_>) -> String {
-    let settings: String = configuration
-        .interfaces()
-        .flat_map(|interface| {
-            interface.alt_settings().map(|it| setting_words(&it)).collect::<Vec<_>>()
-        })
-        .collect();
-    format!(" cfg {}{settings}", configuration.configuration_value())
-}
-
-/// The configurations behind the device descriptor, where that is valid.
-fn words(bytes: &[u8]) -> String {
-    if DeviceDescriptor::new(bytes).is_none() {
-        return "invalid".to_owned();
-    }
-    let mut rest = bytes.get(18..).unwrap_or(&[]);
-    let mut words = "desc".to_owned();
-    while let Some(configuration) = ConfigurationDescriptor::new(rest) {
-        words += &configuration_words(&configuration);
-        rest = &rest[configuration.as_bytes().len()..];
-    }
-    words
+    lines.filter(|line| !line.starts_with(['/', '#'])).filter_map(|line| {
+        let (question, answer) = line.trim_end_matches("\";").split_once(" = ")?;
+        let (word, digits) = question.split_once(' ')?;
+        let is_of_descriptors = answers::answer(word, &[]).is_some();
+        is_of_descriptors.then(|| (word, answers::bytes_of(digits), answer))
+    })
 }
 
 #[test]
-fn configurations_are_walked_as_the_rows_say() {
-    let rows = rows("all ");
-    assert!(rows.len() > 15, "the rows were found");
-    for (bytes, answer) in rows {
-        assert_eq!(words(&bytes), answer, "{bytes:02x?}");
+fn descriptors_are_read_as_the_rows_say() {
+    assert!(rows().count() > 500, "the rows were found");
+    for (word, bytes, answer) in rows() {
+        assert_eq!(answers::answer(word, &bytes).unwrap(), answer, "{word} {bytes:02x?}");
     }
 }
 
@@ -111,10 +66,12 @@ fn a_configuration_needs_its_length_its_type_and_its_total() {
     }
 }
 
-/// The proved walks on the same bytes as those of this crate, where the library is linked.
+/// The numbers that the library tells of descriptors, and what this crate reads at the places that
+/// the library tells.
 #[cfg(usb_core_c)]
 mod beside_the_library {
     use super::*;
+    use usb_host_core::descriptors::{EndpointDescriptor, InterfaceDescriptor};
     use usb_host_core::proved;
 
     fn compare_device(bytes: &[u8]) {
@@ -170,12 +127,10 @@ mod beside_the_library {
 
     #[test]
     fn rows_are_walked_the_same() {
-        for kind in ["all ", "cfg "] {
-            for (bytes, _) in rows(kind) {
-                compare_device(&bytes);
-                compare_configuration(bytes.get(18..).unwrap_or(&[]));
-                compare_configuration(&bytes);
-            }
+        for (_, bytes, _) in rows() {
+            compare_device(&bytes);
+            compare_configuration(bytes.get(18..).unwrap_or(&[]));
+            compare_configuration(&bytes);
         }
     }
 
