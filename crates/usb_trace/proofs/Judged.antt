@@ -1,8 +1,8 @@
 -- The verdict on a text.
-use Rattle.std.proofs.Common.{◌≡◌, ℕ, ◌+◌, ◌-◌, ◌≤◌, suc, zero, true, false, List, [], ◌∷◌, ◌++◌, length, take, map, reverse, slice_get, get_or, Some, None, refl, sym, ap, ◌∙◌, arith, inl, inr}
+use Rattle.std.proofs.Common.{◌≡◌, ℕ, ◌+◌, ◌≤◌, suc, zero, true, false, List, [], ◌∷◌, ◌++◌, length, take, map, reverse, slice_get, get_or, Some, None, refl, sym, ap, ◌∙◌, arith, inl, inr}
 use Rattle.std.specs.List.{All, enumerate_from}
 use Rattle.std.proofs.Math.Seq.{take-append_seam}
-use Rattle.std.proofs.lemmas.List.{length-map, length-take-le, length-reverse, map-append, reverse-append, reverse-reverse, take-append-le, get_or-reverse}
+use Rattle.std.proofs.lemmas.List.{length-map, length-take-le, length-reverse, map-append, reverse-append, reverse-reverse, take-append-le}
 use Rattle.std.proofs.lemmas.List.Elements.{All-map, All-take}
 use Rattle.std.proofs.lemmas.Option.{slice_get_within}
 use Rattle.usb_kernel.specs.declared.event.Event.{Event}
@@ -17,6 +17,7 @@ use Rattle.usb_trace_lines.specs.Capacities.{without_capacity}
 use Rattle.usb_trace_lines.specs.Fates.{fate_told, fates_of}
 use Rattle.usb_trace_lines.specs.Forms.{IsTold, IsFateTold}
 use Rattle.usb_trace_lines.specs.Texts.{trace_text, trace, line_text}
+use Rattle.usb_trace_lines.proofs.Each.{all-reverse}
 use Rattle.usb_trace.specs.Begins.{IsForm}
 use Rattle.usb_trace.specs.Fails.{FailsFirstAt, CanBegin}
 use Rattle.usb_trace.specs.FirstOther.{IsFirstOther}
@@ -41,11 +42,6 @@ map-reverse f (x ∷ xs) =
     ∙ map-append f (reverse xs) (x ∷ [])
     ∙ ap (λ l. l ++ f x ∷ []) (map-reverse f xs)
     ∙ sym (rev-cons (f x) (map f xs))
-
-all-reverse : {X : Type 0} (P : X → Type 0) (xs : List X) → All P xs → All P (reverse xs)
-all-reverse P xs all k d within =
-    let count = length-reverse xs in
-    rw (get_or-reverse xs k d (omega arith)) (all (length xs - 1 - k) d (omega arith))
 
 -- ---- journals that tell the same
 

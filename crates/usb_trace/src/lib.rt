@@ -10,5 +10,5 @@ mod text;
 
 pub use check::{Verdict, check_trace};
 pub use error::TraceError;
-pub use laws::{check_written, written_is_trace};
+pub use laws::{check_written, typed_is_trace, written_is_trace};
 pub use usb_trace_lines::{Failed, Lines, MAX_LINE, write_trace};
