@@ -1,0 +1,9 @@
+pub mod ByteSums
+pub mod TallyLemmas
+pub mod RoundLemmas
+pub mod CountLemmas
+pub mod AnswerLemmas
+pub mod CommandLemmas
+pub mod StepLemmas
+pub mod OpenLemmas
+pub mod WorkedRounds

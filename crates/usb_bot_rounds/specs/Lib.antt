@@ -1,0 +1,4 @@
+pub mod Plain
+pub mod Rounds
+pub mod Starts
+pub mod Runs
