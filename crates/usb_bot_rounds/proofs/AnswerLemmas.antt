@@ -1,17 +1,16 @@
 -- What a command of a served client answers is the answer of a plain list of blocks.
-use Rattle.std.proofs.Common.{◌≡◌, ℕ, ◌+◌, ◌*◌, ◌≤◌, take, drop, Bool, true, false, nat_le, List, length, IfOk, IfErr, IfSome, OnOk, Option, Some, None, is_some, Result, Ok, Err, refl, sym, ap, subst, ◌∙◌, arith, if◌then◌else◌}
+use Rattle.std.proofs.Common.{◌≡◌, ℕ, ◌+◌, ◌*◌, ◌≤◌, drop, List, length, IfOk, IfErr, IfSome, OnOk, Option, is_some, Result, Ok, Err, refl, sym, ap, subst, arith}
 use Rattle.std.specs.Option.{option_map}
 use Rattle.std.proofs.lemmas.Bool.{le-leb, lt-leb}
 use Rattle.std.proofs.lemmas.List.{length-take}
 use Rattle.usb_desc.specs.declared.error.NoMemory.{NoMemory}
 use Rattle.usb_bot.specs.declared.error.BotError.{BotError}
 use Rattle.usb_bot.specs.declared.error.BotError.TheVariants as error
-use Rattle.usb_bot_disk.specs.Blocks.{overwritten, blocks_at}
 use Rattle.usb_bot.specs.Clients.{ClientState}
 use Rattle.usb_bot_disk.specs.DiskState.{DiskState}
 use Rattle.usb_bot_law.specs.Serving.{Serves}
 use Rattle.usb_bot_law.specs.Steps.{ReadLeaves, WriteLeaves}
-use Rattle.usb_bot_rounds.specs.Plain.{Writes, Reads, Wrote, Gave, Refused, has_room, plain_answer, list_behind}
+use Rattle.usb_bot_rounds.specs.Plain.{Writes, Reads, Gave, plain_answer, list_behind}
 use Rattle.usb_bot_rounds.specs.Runs.{IsRefusal, Passes, written_answer, read_answer}
 
 -- the disk serves the client with the bytes that it has

@@ -1,5 +1,5 @@
 -- A sum of bytes.
-use Rattle.std.proofs.Common.{◌≡◌, ℕ, Fits, w8, ◌≤◌, ◌*◌, suc, get_or, List, [], ◌∷◌, length, map, sym, ap, ◌∙◌, arith}
+use Rattle.std.proofs.Common.{ℕ, Fits, w8, ◌≤◌, ◌*◌, suc, get_or, List, [], ◌∷◌, length, ap, arith}
 use Rattle.std.specs.List.{sum, sum_by}
 use Rattle.std.proofs.lemmas.List.{map-id}
 use Rattle.std.proofs.lemmas.List.Sums.{sum-map, sum_by-cons}

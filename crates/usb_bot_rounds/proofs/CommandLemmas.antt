@@ -2,8 +2,7 @@
 use Rattle.std.proofs.Common.{◌≡◌, ℕ, ◌*◌, ◌%◌, ◌<◌, List, length, IfOk, IfErr, Result, Ok, Err, arith, ap, ◌∙◌}
 use Rattle.std.proofs.Math.Nat.{mod-lt, mul-mod_right}
 use Rattle.usb_bot.specs.declared.error.BotError.{BotError}
-use Rattle.usb_bot.specs.Clients.{ClientState}
-use Rattle.usb_bot.specs.Commands.{Commanding, commanding, outcome, blocks_read, blocks_written}
+use Rattle.usb_bot.specs.Commands.{Commanding, outcome, blocks_read, blocks_written}
 use Rattle.usb_bot.specs.Shortages.{ReadFails, WriteFails}
 use Rattle.usb_bot_disk.specs.DiskState.{DiskState}
 use Rattle.usb_bot_disk.specs.DiskCalls.{disk_calls}

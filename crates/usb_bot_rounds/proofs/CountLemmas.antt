@@ -1,5 +1,5 @@
 -- A tally with one answer more, and one more.
-use Rattle.std.proofs.Common.{◌≡◌, ℕ, ◌+◌, ◌*◌, ◌≤◌, List, [], ◌∷◌, refl, sym, ap, ◌∙◌, arith}
+use Rattle.std.proofs.Common.{◌≡◌, ℕ, ◌+◌, ◌*◌, ◌≤◌, [], ◌∷◌, refl, sym, ap, ◌∙◌, arith}
 use Rattle.std.specs.List.{sum}
 use Rattle.usb_bot_rounds.specs.declared.tally.Tally.{Tally}
 use Rattle.usb_bot_rounds.specs.Plain.{PlainAnswer, Wrote, Gave, Refused}

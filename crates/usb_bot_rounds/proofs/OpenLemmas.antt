@@ -1,5 +1,5 @@
 -- What is opened on the first host is refused nothing.
-use Rattle.std.proofs.Common.{◌≡◌, ◌≢◌, ℕ, IfOk, IfErr, OnOk, arith, true, false, ◌*◌, List, replicate, [], ◌∷◌, length, Option, Some, None, Result, Ok, Err, refl, sym, ap, subst, ◌∙◌}
+use Rattle.std.proofs.Common.{◌≡◌, ℕ, IfOk, IfErr, OnOk, arith, false, ◌*◌, List, replicate, length, Option, Some, None, Result, Ok, Err, refl, sym, ap, subst, ◌∙◌}
 use Rattle.std.proofs.Math.Nat.{suc-ne-zero}
 use Rattle.std.specs.Result.{result_unwrap_or}
 use Rattle.usb_desc.specs.declared.error.Fail.{Fail}
@@ -8,8 +8,8 @@ use Rattle.usb_desc.specs.declared.types.TransferType.TheVariants.{Bulk}
 use Rattle.usb_desc.specs.declared.types.Direction.{Direction}
 use Rattle.usb_desc.specs.declared.types.Direction.TheVariants.{Out, In}
 use Rattle.usb_error.specs.ErrorState.{ErrorState}
-use Rattle.usb_error.specs.Outcomes.{Tried, result_map}
-use Rattle.usb_device.specs.HandleCalls.{ClaimsInterface, ClaimsAndCloses, OpensAndCloses}
+use Rattle.usb_error.specs.Outcomes.{Tried}
+use Rattle.usb_device.specs.HandleCalls.{ClaimsAndCloses, OpensAndCloses}
 use Rattle.usb_device_tables.specs.History.{value_at}
 use Rattle.usb_device_ledger.specs.declared.opened.OpenDevice.{OpenDevice}
 use Rattle.usb_device_ledger.specs.Entries.{ClaimedInterface}
@@ -184,8 +184,8 @@ disk-serves b k h disk e f is-bus is-client is-host is-out is-inp is-zeros =
     let bus : b ≡ disk_made opened_host (replicate (512 * 256) 0) 0 2 129 = is-bus ∙ ap (λ h. disk_made h disk 0 2 129) is-host ∙ ap (λ d. disk_made opened_host d 0 2 129) is-zeros in
     let client : k ≡ fresh_client out inp = is-client ∙ ap (λ e. fresh_client e f) is-out ∙ ap (fresh_client out) is-inp in
     subst (λ b. Serves b k (replicate (512 * 256) 0)) (sym bus) (
-      subst (λ k. Serves (disk_made opened_host (replicate (512 * 256) 0) 0 2 129) k (replicate (512 * 256) 0)) (sym client)
-      (new_serves opened_host (replicate (512 * 256) 0) 0 2 129 out inp is-ready is-over)
+    subst (λ k. Serves (disk_made opened_host (replicate (512 * 256) 0) 0 2 129) k (replicate (512 * 256) 0)) (sym client)
+    (new_serves opened_host (replicate (512 * 256) 0) 0 2 129 out inp is-ready is-over)
     )
 
 pub disk-stands : (b : DiskState) (k : ClientState) (h : HostState) (e f : EndpointState) → k ≡ fresh_client e f → h ≡ opened_host → e ≡ out → f ≡ inp → ((e : EndpointState) → Stands (bus_of h) e → Stands (disk_bus_of b) e) → StandBoth (disk_bus_of b) k

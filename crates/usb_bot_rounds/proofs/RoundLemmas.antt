@@ -1,14 +1,13 @@
 -- Each round reads what it wrote.
-use Rattle.std.proofs.Common.{◌≡◌, ℕ, ◌+◌, ◌*◌, ◌%◌, ◌≤◌, Bool, true, false, nat_le, List, [], ◌∷◌, ◌++◌, length, take, drop, map, replicate, refl, sym, ap, subst, ◌∙◌, arith, if◌then◌else◌, zero, suc}
-use Rattle.std.proofs.Math.Seq.{take-append_seam, drop-append_seam, take-append-add}
-use Rattle.std.proofs.lemmas.List.{length-append, length-take-le, append_assoc, length-replicate}
+use Rattle.std.proofs.Common.{◌≡◌, ℕ, ◌+◌, ◌*◌, ◌%◌, ◌≤◌, Bool, true, false, nat_le, List, [], ◌∷◌, ◌++◌, length, take, drop, refl, sym, ap, subst, ◌∙◌, arith, zero, suc}
+use Rattle.std.proofs.Math.Seq.{take-append_seam, drop-append_seam}
+use Rattle.std.proofs.lemmas.List.{length-take-le, append_assoc, length-replicate}
 use Rattle.std.proofs.lemmas.List.FromFn.{length-map-range_with_len}
 use Rattle.std.proofs.lemmas.Bool.{leb-true}
-use Rattle.std.specs.List.{sum}
 use Rattle.usb_bot_rounds.specs.declared.tally.Tally.{Tally}
 use Rattle.usb_bot_disk.specs.Blocks.{overwritten, blocks_at}
-use Rattle.usb_bot_rounds.specs.Plain.{PlainCommand, Writes, Reads, PlainAnswer, Wrote, Gave, Refused, has_room, plain_answer, plain_answers, list_behind, list_behind_all}
-use Rattle.usb_bot_rounds.specs.Rounds.{round_block, round_count, round_bytes, round_commands, commands_of_rounds, zeros, tally_of, added, rounds_tally}
+use Rattle.usb_bot_rounds.specs.Plain.{PlainAnswer, Wrote, Gave, Refused, has_room, plain_answers, list_behind_all}
+use Rattle.usb_bot_rounds.specs.Rounds.{round_block, round_count, round_bytes, round_commands, zeros, tally_of, added, rounds_tally}
 use Rattle.usb_bot_disk.proofs.BlockLemmas.{written-length}
 use Rattle.usb_bot_rounds.proofs.TallyLemmas.{list_behind_rounds, list-more, tally-more}
 
@@ -99,6 +98,6 @@ unfolding rounds_tally
 tally-rounds zero = refl
 tally-rounds (suc n) =
     subst (λ m. rounds_tally m ≡ tally_of_rounds (suc n)) (next n) (
-      tally-more n ∙ ap (λ t. added t (tally_of (plain_answers (list_behind_rounds n) (round_commands n)))) (tally-rounds n)
-      ∙ ap (λ answers. added (tally_of_rounds n) (tally_of answers)) (answers-round (list_behind_rounds n) (long-rounds n) n (round_fits n) refl)
+    tally-more n ∙ ap (λ t. added t (tally_of (plain_answers (list_behind_rounds n) (round_commands n)))) (tally-rounds n)
+    ∙ ap (λ answers. added (tally_of_rounds n) (tally_of answers)) (answers-round (list_behind_rounds n) (long-rounds n) n (round_fits n) refl)
     )

@@ -1,12 +1,11 @@
 -- Commands one after another, and their tallies.
-use Rattle.std.proofs.Common.{◌≡◌, ℕ, ◌+◌, List, [], ◌∷◌, ◌++◌, length, refl, sym, ap, ◌∙◌, arith, Bool, true, false}
-use Rattle.std.specs.List.{count_by, filter, sum_by, flat_map, range_with_len}
+use Rattle.std.proofs.Common.{◌≡◌, ℕ, ◌+◌, List, [], ◌∷◌, ◌++◌, length, refl, sym, ap, ◌∙◌, arith, Bool}
+use Rattle.std.specs.List.{count_by, filter, range_with_len}
 use Rattle.std.proofs.lemmas.List.{append-nil, length-append, map-id}
 use Rattle.std.proofs.lemmas.List.Sums.{sum_by-append, length-filter}
 use Rattle.std.proofs.lemmas.List.Elements.{filter-append}
 use Rattle.std.proofs.lemmas.List.FromFn.{map-range_with_len_more}
 use Rattle.std.proofs.lemmas.Grind.{flat_map-append}
-use Rattle.usb_bot_rounds.specs.declared.tally.Tally.{Tally}
 use Rattle.usb_bot_rounds.specs.Plain.{PlainCommand, PlainAnswer, plain_answer, plain_answers, list_behind, list_behind_all}
 use Rattle.usb_bot_rounds.specs.Rounds.{is_written, is_read, is_failed, sum_read, tally_of, added, round_commands, commands_of_rounds, zeros, rounds_tally}
 

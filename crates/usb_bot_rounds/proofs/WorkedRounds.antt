@@ -1,6 +1,5 @@
 -- The tallies of one round, of two, and of 84, computed.
-use Rattle.std.proofs.Common.{◌≡◌, ℕ, refl}
-use Rattle.usb_bot_rounds.specs.declared.tally.Tally.{Tally}
+use Rattle.std.proofs.Common.{◌≡◌, refl}
 use Rattle.usb_bot_rounds.specs.Rounds.{rounds_tally, round_bytes, zeros}
 use Rattle.usb_bot_rounds.proofs.RoundLemmas.{tally-rounds}
 

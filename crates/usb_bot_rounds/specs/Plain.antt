@@ -1,5 +1,5 @@
 -- What a plain list of blocks answers to commands.
-use Rattle.std.specs.Prelude.{ℕ, ◌+◌, ◌*◌, Bool, true, false, List, [], ◌∷◌, length, nat_le, if◌then◌else◌}
+use Rattle.std.specs.Prelude.{ℕ, ◌+◌, ◌*◌, Bool, List, [], ◌∷◌, length, nat_le, if◌then◌else◌}
 use Rattle.usb_bot_disk.specs.Blocks.{overwritten, blocks_at}
 
 -- a command: bytes are written to the blocks from one on, or so many blocks from one on are read

@@ -1,5 +1,5 @@
 -- What the commands of rounds make of a tally.
-use Rattle.std.specs.Prelude.{ℕ, ◌≡◌, ◌+◌, ◌*◌, ◌^◌, ◌≤◌, Bool, List, Option, Some, None, Result, Ok, Err, if◌then◌else◌}
+use Rattle.std.specs.Prelude.{ℕ, ◌≡◌, ◌+◌, ◌*◌, ◌≤◌, Bool, List, Option, Some, None, Result, Ok, Err, if◌then◌else◌}
 use Rattle.std.specs.List.{sum}
 use Rattle.usb_desc.specs.declared.error.NoMemory.{NoMemory}
 use Rattle.usb_bot.specs.declared.error.BotError.{BotError}

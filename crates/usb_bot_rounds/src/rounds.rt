@@ -28,7 +28,7 @@ fn write_round(
     requires stand { StandBoth (disk_bus_of bus.old) client.old }
     ensures answer { IfOk result (λ written. written_answer written
         ≡ plain_answer bus.old.machine.disk
-            (Writes (round_block round.number) (round_bytes round.number))) }
+        (Writes (round_block round.number) (round_bytes round.number))) }
     ensures blocks { OnOk result (Serves bus.new client.new (list_behind bus.old.machine.disk
         (Writes (round_block round.number) (round_bytes round.number)))) }
     ensures stand { StandBoth (disk_bus_of bus.new) client.new }
@@ -48,7 +48,7 @@ fn read_round(
     requires stand { StandBoth (disk_bus_of bus.old) client.old }
     ensures answer { IfOk result (λ read. read_answer (option_map (λ bytes. bytes.items) read)
         ≡ plain_answer bus.old.machine.disk
-            (Reads (round_block round.number) (round_count round.number))) }
+        (Reads (round_block round.number) (round_count round.number))) }
     ensures short { IfOk result (λ read. IfSome read (λ bytes. length bytes.items ≤ 32768)) }
     ensures blocks { OnOk result (Serves bus.new client.new bus.old.machine.disk) }
     ensures stand { StandBoth (disk_bus_of bus.new) client.new }

@@ -1,6 +1,3 @@
-use Rattle.std.proofs.Common.{◌≡◌, ap, sym, subst, ◌∙◌}
-use Rattle.usb_bot.specs.Clients.{StandBoth}
-use Rattle.usb_bot_disk.specs.DiskCalls.{disk_bus_of}
 use Rattle.usb_bot_rounds.proofs.OpenLemmas.{disk-serves, disk-stands}
 use Rattle.usb_bot_rounds.proofs.disk.new_disk.Goals as goal
 

@@ -1,5 +1,5 @@
 use Rattle.std.proofs.Common.{◌≡◌}
-use Rattle.usb_bot_rounds.specs.Starts.{held_host, claimed_host, listening_host, opened_host, first_interface, out, inp}
+use Rattle.usb_bot_rounds.specs.Starts.{opened_host, out}
 use Rattle.usb_bot_rounds.proofs.OpenLemmas.{out-given, passes-on, handle-of, host-of}
 use Rattle.usb_bot_rounds.proofs.disk.open_output.Goals as goal
 

@@ -1,7 +1,6 @@
-use Rattle.std.proofs.Common.{◌≡◌, ℕ, ◌≤◌, ◌<◌, ◌%◌, arith}
+use Rattle.std.proofs.Common.{◌<◌, ◌%◌, arith}
 use Rattle.std.proofs.Math.Nat.{mod-lt}
 use Rattle.usb_bot.specs.Commands.{commanding}
-use Rattle.usb_bot_rounds.specs.Rounds.{round_block, round_count}
 use Rattle.usb_bot_rounds.proofs.AnswerLemmas.{read-refused, read-answers, read-lists, read-short}
 use Rattle.usb_bot_rounds.proofs.CommandLemmas.{can-read, read-leaves}
 use Rattle.usb_bot_rounds.proofs.rounds.read_round.Goals as goal

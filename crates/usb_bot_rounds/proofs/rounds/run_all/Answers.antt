@@ -1,4 +1,4 @@
-use Rattle.std.proofs.Common.{◌≡◌, ◌∙◌}
+use Rattle.std.proofs.Common.{◌∙◌}
 use Rattle.usb_bot_rounds.proofs.StepLemmas.{serves-more, tally-next, first-tally, first-within}
 use Rattle.usb_bot_rounds.proofs.rounds.run_all.Goals as goal
 

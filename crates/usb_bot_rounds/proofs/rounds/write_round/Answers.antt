@@ -1,6 +1,5 @@
-use Rattle.std.proofs.Common.{◌≡◌, length, ap, ◌∙◌, is_some}
+use Rattle.std.proofs.Common.{length, ap, ◌∙◌}
 use Rattle.usb_bot.specs.Commands.{commanding}
-use Rattle.usb_bot_rounds.specs.Rounds.{round_block, round_bytes}
 use Rattle.usb_bot_rounds.specs.Runs.{written_answer}
 use Rattle.usb_bot_rounds.proofs.AnswerLemmas.{write-refused, write-answer, write-list}
 use Rattle.usb_bot_rounds.proofs.CommandLemmas.{can-write, write-leaves}

@@ -1,4 +1,4 @@
-use Rattle.std.proofs.Common.{rules, ◌≡◌, ◌≤◌, ◌*◌, length, arith}
+use Rattle.std.proofs.Common.{rules, arith}
 use Rattle.usb_bot_rounds.proofs.ByteSums.{byte-sum}
 use Rattle.usb_bot_rounds.proofs.tally.sum_of.Goals as goal
 
