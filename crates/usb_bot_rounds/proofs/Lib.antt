@@ -1,7 +1,6 @@
 pub mod ByteSums
 pub mod TallyLemmas
 pub mod RoundLemmas
-pub mod CountLemmas
 pub mod AnswerLemmas
 pub mod CommandLemmas
 pub mod StepLemmas
