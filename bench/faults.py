@@ -12,7 +12,7 @@ import tempfile
 import threading
 from dataclasses import dataclass
 
-USAGE = "usage: nusb_sim [session|generate N|live N|check]\n"
+USAGE = "usage: nusb_sim [session|generate N|live N|disk N|check]\n"
 MALFORMED = "nusb_sim: malformed line {}\n"
 TOO_LONG = "nusb_sim: script too long\n"
 READ_FAULT = "nusb_sim: read fault\n"
@@ -26,6 +26,7 @@ MANY = POLL * (MOST // 10 + 1)  # answered by more than 2^20 bytes
 OK = b"condition\n"
 GENERATED = b"generate 1 calls 12 tickets 5 taken 2 dropped 0 reclaimed 3\n"
 LIVE = b"live 3 submitted 3 taken 3 dropped 0 reclaimed 0\n"
+DISK = b"disk 84 writes 83 reads 83 failed 2 sum 13447680\n"
 
 
 @dataclass
@@ -61,6 +62,14 @@ CASES = [
     unknown("live", "1001"),
     unknown("live", "x"),
     unknown("live", "1", "1"),
+    Case("rounds at a disk", 0, "", DISK, words=("disk", "84")),
+    Case("rounds at a disk and a full device", 6, WRITE_FAULT, words=("disk", "1"), into="full"),
+    Case("rounds at a disk and a closed pipe", 6, WRITE_FAULT, words=("disk", "1"), into="closed"),
+    unknown("disk"),
+    unknown("disk", "0"),
+    unknown("disk", "501"),
+    unknown("disk", "x"),
+    unknown("disk", "1", "1"),
     Case("a generated script", 0, "", GENERATED, words=("generate", "1")),
     Case("a generated script and a full device", 6, WRITE_FAULT, words=("generate", "1"), into="full"),
     Case("a check", 0, "", b"yes\n", words=("check",), script=TRACE),

@@ -45,7 +45,8 @@ fn locked(kernel: &Mutex<Kernel>) -> MutexGuard<'_, Kernel> {
     kernel.lock().unwrap_or_else(PoisonError::into_inner)
 }
 
-fn one_device() -> Kernel {
+/// A kernel with the device.
+pub fn one_device() -> Kernel {
     let mut kernel = Kernel::default();
     let device = Device {
         bus: 1,

@@ -1,11 +1,12 @@
 //! The session of `nusb_sim` as plain Rust, by the rules of docs/SCRIPT.md: what the proved program
 //! is timed against and compared with. Beside it the words `generate N`, and `live N` by std's threads,
-//! lock and channels, and `check`. It has no status 7: where memory is wanting it aborts.
+//! lock and channels, `disk N`, and `check`. It has no status 7: where memory is wanting it aborts.
 
 mod answer;
 mod client;
 mod control;
 mod descriptors;
+mod disk;
 mod errno;
 mod fault;
 mod generated;
@@ -39,6 +40,7 @@ const BUFFER_BYTES: usize = 1 << 16;
 
 const MOST_TRANSFERS: u64 = 1000;
 const MOST_MESSAGES: u64 = 2000;
+const MOST_ROUNDS: u64 = 500;
 
 /// What the program's words ask for.
 enum Task {
@@ -47,6 +49,8 @@ enum Task {
     Generate(u32),
     /// So many transfers between two threads.
     Live(u32),
+    /// So many rounds of commands at a disk.
+    Disk(u32),
     /// A trace, which is checked.
     Check,
 }
@@ -65,6 +69,7 @@ fn read_words() -> Result<Task, Fault> {
         [word] if word == "session" => Ok(Task::Session),
         [word, count] if word == "generate" => count_of(count, MOST_MESSAGES).map(Task::Generate),
         [word, count] if word == "live" => count_of(count, MOST_TRANSFERS).map(Task::Live),
+        [word, count] if word == "disk" => count_of(count, MOST_ROUNDS).map(Task::Disk),
         [word] if word == "check" => Ok(Task::Check),
         _ => Err(Fault::Usage),
     }
@@ -123,6 +128,7 @@ fn run() -> Result<(), Fault> {
         Task::Session => run_session(),
         Task::Generate(wanted) => write_run(&generated::run(wanted)),
         Task::Live(wanted) => write_run(&live::run(wanted)),
+        Task::Disk(wanted) => write_run(&disk::run(wanted)),
         Task::Check => write_run(&trace::check(&read_text(MOST_TRACE_BYTES)?)?),
     }
 }

@@ -6,7 +6,7 @@ use common::expect;
 use std::fs::File;
 use std::process::Command;
 
-const USAGE: &str = "usage: nusb_sim [session|generate N|live N|check]\n";
+const USAGE: &str = "usage: nusb_sim [session|generate N|live N|disk N|check]\n";
 
 #[test]
 fn knows_no_word_and_session() {
@@ -93,6 +93,48 @@ const LIVE: [(&[&str], i32, &str, &str); 9] = [
 #[test]
 fn live_writes_its_line() {
     for (words, status, output, report) in LIVE {
+        expect(&words.join(" "), words, b"now\n", status, output, report);
+    }
+}
+
+/// Words, the status, what is written, and the line on standard error.
+const DISKS: [(&[&str], i32, &str, &str); 11] = [
+    (
+        &["disk", "1"],
+        0,
+        "disk 1 writes 1 reads 1 failed 0 sum 65280\n",
+        "",
+    ),
+    (
+        &["disk", "0002"],
+        0,
+        "disk 2 writes 2 reads 2 failed 0 sum 195840\n",
+        "",
+    ),
+    (
+        &["disk", "84"],
+        0,
+        "disk 84 writes 83 reads 83 failed 2 sum 13447680\n",
+        "",
+    ),
+    (
+        &["disk", "500"],
+        0,
+        "disk 500 writes 496 reads 496 failed 8 sum 80686080\n",
+        "",
+    ),
+    (&["disk", "0"], 2, "", USAGE),
+    (&["disk", "501"], 2, "", USAGE),
+    (&["disk", "00000000000000000001"], 2, "", USAGE),
+    (&["disk", "1x"], 2, "", USAGE),
+    (&["disk"], 2, "", USAGE),
+    (&["disk", "1", "1"], 2, "", USAGE),
+    (&["DISK", "1"], 2, "", USAGE),
+];
+
+#[test]
+fn disk_writes_its_line() {
+    for (words, status, output, report) in DISKS {
         expect(&words.join(" "), words, b"now\n", status, output, report);
     }
 }

@@ -29,7 +29,7 @@ fn expect_malformed(name: &str, text: &str, line: usize) {
 
 #[test]
 fn knows_the_word() {
-    let usage = "usage: nusb_sim [session|generate N|live N|check]\n";
+    let usage = "usage: nusb_sim [session|generate N|live N|disk N|check]\n";
     expect("check", &["check"], b"nusb-trace 1\nend\n", 0, "yes\n", "");
     expect("check 1", &["check", "1"], b"", 2, "", usage);
 }
