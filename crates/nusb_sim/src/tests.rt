@@ -316,7 +316,11 @@ fn tells_why_nothing_was_answered(rt: HostRuntime) -> Result<(), Fail> {
         let wanted = (*status, *output, *report);
         expect_run(&rt, rt.alloc(), name, &[], script.as_bytes(), wanted)?;
     }
-    let wanted = (2, "", "usage: nusb_sim [session|generate N|live N|check]\n");
+    let wanted = (
+        2,
+        "",
+        "usage: nusb_sim [session|generate N|live N|disk N|check]\n",
+    );
     expect_run(&rt, rt.alloc(), "an unknown word", &["--help"], b"", wanted)
 }
 

@@ -3,6 +3,7 @@ pub mod Checks
 pub mod OneLine
 pub mod Live
 pub mod Generate
+pub mod Disk
 pub mod Memory
 pub mod Program
 pub mod Exchanges

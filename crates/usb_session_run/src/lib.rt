@@ -8,6 +8,7 @@ mod memory;
 mod outside;
 mod program;
 mod reading;
+mod rounds;
 mod run;
 mod standard;
 mod sure;

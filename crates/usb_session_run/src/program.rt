@@ -1,6 +1,6 @@
 //! The program.
 
-ghost use Rattle.std.specs.Prelude.{ℕ, List, IsOk, ◌≡◌, ◌≢◌, ◌⊎◌, ◌↔◌, ◌≤◌, ◌^◌, ◌++◌, length, true, false, Some, None, map, string_bytes, decimal, IfSome, OnOk, OnErr, IsTrue};
+ghost use Rattle.std.specs.Prelude.{ℕ, List, IsOk, ◌≡◌, ◌≢◌, ◌⊎◌, ◌↔◌, ◌≤◌, ◌^◌, ◌++◌, length, true, false, Some, None, map, string_bytes, decimal, IfSome, IsSome, OnOk, OnErr, IsTrue};
 ghost use Rattle.std.specs.Io.KnownBytes.{Appends, Keeps};
 ghost use Rattle.usb_session_run.specs.Causes.{RoseByOne, CountsFaults, WrotePrefix, FailedLast, TookAtMost};
 ghost use Rattle.usb_script.specs.Parse.{script_of};
@@ -8,6 +8,7 @@ ghost use Rattle.usb_session_run.specs.Session.{streams, IsAnswered, HasReason, 
 ghost use Rattle.usb_session.specs.declared.summary.Summary.{Summary};
 ghost use Rattle.usb_session_run.specs.Live.{live_count, live_line};
 ghost use Rattle.usb_session_run.specs.Generate.{generate_count, generate_line};
+ghost use Rattle.usb_session_run.specs.Disk.{disk_count, disk_line};
 ghost use Rattle.usb_session_run.specs.Checks.{is_check, TellsForm, TellsText, TellsYes};
 ghost use Rattle.usb_session_run.specs.Program.{is_session, is_usage, status_of, report_of, error_line, usage_line, Reports, RunsSession, RunsLine, RunsCheck};
 ghost use Rattle.usb_trace.specs.Begins.{IsForm};
@@ -17,6 +18,7 @@ use crate::checking::check;
 use crate::generation::generate;
 use crate::live::live;
 use crate::outside::{Failed, Gathers, Sink, Source};
+use crate::rounds::run_disk;
 use crate::run::run_session;
 use crate::writing::offer;
 use itoa::Buffer;
@@ -47,6 +49,7 @@ fn is_check(words: &[String]) -> bool
     ensures alone { IsTrue result → is_session (map string_bytes words.now) ≡ false }
     ensures no_transfers { IsTrue result → live_count (map string_bytes words.now) ≡ None }
     ensures no_script { IsTrue result → generate_count (map string_bytes words.now) ≡ None }
+    ensures no_rounds { IsTrue result → disk_count (map string_bytes words.now) ≡ None }
 {
     match words {
         [word] => word.as_str() == "check",
@@ -82,6 +85,22 @@ fn generate_count(words: &[String]) -> Option<u32>
         return None;
     }
     let n = number_between(1, 2000, count.as_bytes())?;
+    Some(n as u32)
+}
+
+/// How many rounds at a disk the words ask for.
+fn disk_count(words: &[String]) -> Option<u32>
+    ensures value { result ≡ disk_count (map string_bytes words.now) }
+    ensures few { IfSome result (λ n. n ≤ 500) }
+    ensures no_script { IsSome result → generate_count (map string_bytes words.now) ≡ None }
+{
+    let [word, count] = words else {
+        return None;
+    };
+    if word.as_str() != "disk" {
+        return None;
+    }
+    let n = number_between(1, 500, count.as_bytes())?;
     Some(n as u32)
 }
 
@@ -148,7 +167,10 @@ fn report_usage<G: Sink>(diag: &mut G)
     ensures line { Reports (G.written diag.old) (G.written diag.new) (G.faults diag.old)
         (G.faults diag.new) usage_line }
 {
-    let _ = offer(diag, b"usage: nusb_sim [session|generate N|live N|check]\n");
+    let _ = offer(
+        diag,
+        b"usage: nusb_sim [session|generate N|live N|disk N|check]\n",
+    );
 }
 
 /// Reports words that couldn't be read as text, and answers the status of a faulty command line.
@@ -272,6 +294,10 @@ fn answer_words<S: Source, K: Sink, D: Sink>(
         RunsLine (generate_line n) (K.written sink.old) (K.written sink.new)
         (K.faults sink.old) (K.faults sink.new) (D.written diag.old) (D.written diag.new)
         (D.faults diag.old) (D.faults diag.new) result }
+    ensures disk { (n : ℕ) → disk_count (map string_bytes words.now) ≡ Some n →
+        RunsLine (disk_line n) (K.written sink.old) (K.written sink.new)
+        (K.faults sink.old) (K.faults sink.new) (D.written diag.old) (D.written diag.new)
+        (D.faults diag.old) (D.faults diag.new) result }
     // Of a session: where the status is 0, the whole output was written.
     ensures done { is_session (map string_bytes words.now) ≡ true → result ≡ 0 →
         (summary : Summary) × IsAnswered
@@ -342,6 +368,11 @@ fn answer_words<S: Source, K: Sink, D: Sink>(
         report(diag, &answer);
         return status_of(&answer);
     }
+    if let Some(n) = disk_count(words) {
+        let answer = run_disk(alloc, n, sink);
+        report(diag, &answer);
+        return status_of(&answer);
+    }
     let Some(n) = generate_count(words) else {
         report_usage(diag);
         return USAGE;
@@ -382,6 +413,10 @@ pub fn run_program<R: Threads + Wait + Sync, S: Source, K: Sink, D: Sink, G: Gat
         (D.faults diag.old) (D.faults diag.new) result }
     ensures generate { (n : ℕ) → generate_count (map string_bytes words.now.items) ≡ Some n →
         RunsLine (generate_line n) (K.written sink.old) (K.written sink.new)
+        (K.faults sink.old) (K.faults sink.new) (D.written diag.old) (D.written diag.new)
+        (D.faults diag.old) (D.faults diag.new) result }
+    ensures disk { (n : ℕ) → disk_count (map string_bytes words.now.items) ≡ Some n →
+        RunsLine (disk_line n) (K.written sink.old) (K.written sink.new)
         (K.faults sink.old) (K.faults sink.new) (D.written diag.old) (D.written diag.new)
         (D.faults diag.old) (D.faults diag.new) result }
     // Of a session: where the status is 0, the whole output was written.

@@ -1,4 +1,4 @@
-//! The words `live` and `generate`.
+//! The words `live`, `generate` and `disk`.
 
 ghost use Rattle.std.specs.Prelude.{◌≡◌, false};
 
@@ -38,7 +38,7 @@ fn wait_for(seen: &Seen, found: &Seen) {
     }
 }
 
-const USAGE: &str = "usage: nusb_sim [session|generate N|live N|check]\n";
+const USAGE: &str = "usage: nusb_sim [session|generate N|live N|disk N|check]\n";
 
 /// Words, the status, what is written and what is reported.
 const GENERATED: [(&[&str], u8, &str, &str); 8] = [
@@ -112,10 +112,53 @@ fn live_writes_its_line(rt: HostRuntime) -> Result<(), Fail> {
     Ok(())
 }
 
+/// Words, the status, what is written and what is reported.
+const DISKS: [(&[&str], u8, &str, &str); 10] = [
+    (
+        &["disk", "1"],
+        0,
+        "disk 1 writes 1 reads 1 failed 0 sum 65280\n",
+        "",
+    ),
+    (
+        &["disk", "002"],
+        0,
+        "disk 2 writes 2 reads 2 failed 0 sum 195840\n",
+        "",
+    ),
+    (
+        &["disk", "84"],
+        0,
+        "disk 84 writes 83 reads 83 failed 2 sum 13447680\n",
+        "",
+    ),
+    (
+        &["disk", "500"],
+        0,
+        "disk 500 writes 496 reads 496 failed 8 sum 80686080\n",
+        "",
+    ),
+    (&["disk", "0"], 2, "", USAGE),
+    (&["disk", "501"], 2, "", USAGE),
+    (&["disk", "00000000000000000001"], 2, "", USAGE),
+    (&["disk", "1x"], 2, "", USAGE),
+    (&["disk"], 2, "", USAGE),
+    (&["disk", "1", "1"], 2, "", USAGE),
+];
+
+#[test]
+fn disk_writes_its_line(rt: HostRuntime) -> Result<(), Fail> {
+    for (words, status, output, report) in &DISKS {
+        let wanted = (*status, *output, *report);
+        expect_run(&rt, rt.alloc(), "disk", *words, b"", wanted)?;
+    }
+    Ok(())
+}
+
 #[test]
 fn a_failed_write_is_told(rt: HostRuntime) -> Result<(), Fail> {
     let failing: (&[u64], &[u64]) = (&[], &[1]);
-    for words in &[["live", "2"], ["generate", "2"]] {
+    for words in &[["live", "2"], ["generate", "2"], ["disk", "2"]] {
         let wanted = (6, "", "nusb_sim: write fault\n");
         expect_faults(&rt, rt.alloc(), words[0], words, b"", failing, wanted)?;
     }
