@@ -1034,7 +1034,8 @@ def kinds_of_answers(text):
 
 def all_kinds():
     """The kinds of lines and steps that docs/SCRIPT.md has in its tables, those of refusals and those of answers."""
-    yield from dict.fromkeys(re.findall(r"^\| `([a-z]+)", LANGUAGE.read_text(), re.MULTILINE))
+    scripts, _, _ = LANGUAGE.read_text().partition("## Rounds at a disk")
+    yield from dict.fromkeys(re.findall(r"^\| `([a-z]+)", scripts, re.MULTILINE))
     for head, words in (("refuse", LINES_OF), ("answer", ANSWERS), ("error", ERRORS), ("status", STATUSES), ("end", ENDS)):
         yield from (f"{head} {word}" for word in words)
     yield from DEADLINES
