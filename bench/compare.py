@@ -11,7 +11,8 @@ they wait, in another reads of readers, in a third transfers of endpoints; in so
 closes, kernel drivers, configurations and alternate settings. In some, deadlines of transfers pass by steps of the timer, and in
 some while a control transfer is waited for. In about a third of the scripts no refusal is armed. One in ten has a malformed line.
 Some scripts print the descriptors of damaged devices, and in some more than 1,024 tickets are unreaped.
-Then as many traces are checked by both, in most of which one line was changed, left out, doubled or moved (traces.py).
+Of each script the traces of both are compared, too. Then as many random traces are checked by both, and the traces of the scripts. In most of
+them one line was changed, left out, doubled or moved (traces.py). A trace of a script has to be checked `yes` as it is.
 At the end stand the kinds of lines and steps of docs/SCRIPT.md, the answers and the statuses that didn't occur, and of the
 calls about owners, of control transfers and of reads each answer that didn't: those that a script can have without an armed refusal are
 counted there alone. Of `halt r` they say whether the read before it had failed. Of deadlines they say what discarded a transfer that was due.
@@ -1052,13 +1053,24 @@ def show_difference(text, one, two):
         print(f"  {a.decode()}\n  {b.decode()}")
 
 
-def compare_traces(program, other, count, first):
-    seen, difference = traces.compare(answer, program, other, count, first)
+def compare_checks(program, other, name, made_traces):
+    seen, difference = traces.compare(answer, program, other, made_traces)
     if difference:
         seed, text, one, two = difference
         show_difference(text, one, two)
-        sys.exit(f"trace {seed}: they differ")
-    print(f"{count} traces: the same ({', '.join(f'{kind} {number}' for kind, number in sorted(seen.items()))})")
+        sys.exit(f"{name}, {seed}: they differ")
+    print(f"{len(made_traces)} {name}: the same ({', '.join(f'{kind} {number}' for kind, number in sorted(seen.items()))})")
+
+
+def trace_of(program, other, seed, text):
+    """The lines of a script's trace, which both have to write, and which has to be checked `yes`."""
+    one, two = answer(program, text, "trace"), answer(other, text, "trace")
+    if one != two:
+        show_difference(text, one, two)
+        sys.exit(f"the trace of script {seed}: they differ")
+    if one[0] == 0 and answer(program, one[1], "check")[1] != b"yes\n":
+        sys.exit(f"the trace of script {seed} isn't checked yes")
+    return one[1].decode().splitlines()
 
 
 def main():
@@ -1067,7 +1079,7 @@ def main():
     program, other = sys.argv[1:3]
     count = int(sys.argv[3]) if len(sys.argv) > 3 else 1000
     first = int(sys.argv[4]) if len(sys.argv) > 4 else 0
-    lines, seen = 0, collections.Counter()
+    lines, seen, written = 0, collections.Counter(), []
     for seed in range(first, first + count):
         text = script(seed)
         one, two = answer(program, text), answer(other, text)
@@ -1075,6 +1087,8 @@ def main():
             show_difference(text, one, two)
             sys.exit(f"script {seed}: they differ")
         lines += one[1].count(b"\n")
+        if told := trace_of(program, other, seed, text):
+            written.append((seed, told))
         seen.update(kinds_of_answers(one[1]))
         if one[0] == 0:
             seen.update(kinds_of_script(text))
@@ -1083,7 +1097,8 @@ def main():
     print(f"{count} scripts, {lines} lines of answers: the same")
     missing = [kind if isinstance(kind, str) else f"{kind[0]}: {kind[1]}" for kind in all_kinds() if not seen[kind]]
     print(f"the scripts that were answered have none of: {', '.join(missing)}" if missing else "each kind of line, step, answer and status occurred")
-    compare_traces(program, other, count, first)
+    compare_checks(program, other, "traces", [(seed, traces.trace(seed)) for seed in range(first, first + count)])
+    compare_checks(program, other, "traces of scripts", written)
 
 
 if __name__ == "__main__":

@@ -12,7 +12,7 @@ import tempfile
 import threading
 from dataclasses import dataclass
 
-USAGE = "usage: nusb_sim [session|generate N|live N|disk N|check]\n"
+USAGE = "usage: nusb_sim [session|generate N|live N|disk N|trace|check]\n"
 MALFORMED = "nusb_sim: malformed line {}\n"
 TOO_LONG = "nusb_sim: script too long\n"
 READ_FAULT = "nusb_sim: read fault\n"
@@ -72,6 +72,15 @@ CASES = [
     unknown("disk", "1", "1"),
     Case("a generated script", 0, "", GENERATED, words=("generate", "1")),
     Case("a generated script and a full device", 6, WRITE_FAULT, words=("generate", "1"), into="full"),
+    Case("a trace", 0, "", TRACE, words=("trace",)),
+    Case("a trace of no script", 0, "", TRACE, words=("trace",), script=b""),
+    Case("a trace of a malformed script", 3, MALFORMED.format(2), words=("trace",), script=POLL + b"poll\n"),
+    Case("a trace of the longest script", 0, "", TRACE, words=("trace",), script=POLL + b" " * (MOST - len(POLL))),
+    Case("a trace of a script of one byte more", 4, TOO_LONG, words=("trace",), script=POLL + b" " * (MOST + 1 - len(POLL))),
+    Case("a trace of a folder", 5, READ_FAULT, words=("trace",), script=None),
+    Case("a trace and a full device", 6, WRITE_FAULT, words=("trace",), into="full"),
+    Case("a trace and a closed pipe", 6, WRITE_FAULT, words=("trace",), into="closed"),
+    unknown("trace", "1"),
     Case("a check", 0, "", b"yes\n", words=("check",), script=TRACE),
     Case("a check of no text", 3, MALFORMED.format(1), words=("check",), script=b""),
     Case("a check of the longest text", 3, MALFORMED.format(3), words=("check",), script=TRACE + b" " * (MOST_TRACE - len(TRACE))),

@@ -1,12 +1,13 @@
 #!/usr/bin/env python3
-"""Tells how much memory programs hold at most, on an empty script and on big ones.
+"""Tells how much memory two programs hold at most on big scripts.
 
-usage: bench/memory.py PROGRAM.. [--kind KIND]..
+usage: bench/memory.py PROGRAM OTHER [KIND..]
 
-KIND is one of bench/big_script.py (`openings` where none is named). The figures are megabytes of 10^6 bytes: the
-greatest resident size that the system tells while the program runs (`VmHWM`, looked at again and again). Scripts and outputs are files in memory, where the system has such.
+KIND is one of bench/big_script.py, all where none is named. The figures are megabytes of 10^6 bytes: the greatest resident size that
+the system tells while the program runs (`VmHWM`, looked at again and again). Scripts and outputs are files in memory, where the system
+has such.
 """
-import argparse
+import math
 import os
 import subprocess
 import sys
@@ -26,31 +27,33 @@ def peak_of(pid):
 
 
 def most_memory(program, text, room):
-    """The greatest resident size of a run on a script, in bytes."""
+    """The greatest resident size of three runs on a script, in bytes."""
     with open(f"{room}/script", "w", encoding="ascii") as script:
         script.write(text)
-    with open(f"{room}/script", "rb") as script, open(f"{room}/output", "wb") as output:
-        most, ran = 0, subprocess.Popen([program], stdin=script, stdout=output)
-        while ran.poll() is None:
-            most = max(most, peak_of(ran.pid))
-    if ran.returncode:
-        sys.exit(f"{program}: status {ran.returncode}")
+    most = 0
+    for _ in range(3):
+        with open(f"{room}/script", "rb") as script, open(f"{room}/output", "wb") as output:
+            ran = subprocess.Popen([program], stdin=script, stdout=output)
+            while ran.poll() is None:
+                most = max(most, peak_of(ran.pid))
+        if ran.returncode:
+            sys.exit(f"{program}: status {ran.returncode}")
     return most
 
 
 def main():
-    parser = argparse.ArgumentParser(usage=__doc__)
-    parser.add_argument("programs", nargs="+")
-    parser.add_argument("--kind", action="append", choices=big_script.KINDS)
-    words = parser.parse_args()
-    memory = "/dev/shm" if os.path.isdir("/dev/shm") else None
-    with tempfile.TemporaryDirectory(dir=memory) as room:
-        for program in words.programs:
-            least = most_memory(program, "", room)
-            print(f"{program}: {least / 1e6:.1f} on an empty script")
-            for kind in words.kind or ["openings"]:
-                most = most_memory(program, big_script.script(kind), room)
-                print(f"{program}: {most / 1e6:.1f} on {kind}, {(most - least) / 1e6:.1f} more")
+    programs, kinds = [os.path.abspath(it) for it in sys.argv[1:3]], sys.argv[3:] or list(big_script.KINDS)
+    if len(programs) < 2 or set(kinds) - set(big_script.KINDS):
+        sys.exit(__doc__)
+    print("| script | proved, MB | plain, MB | proved / plain |\n|---|---|---|---|")
+    found = []
+    with tempfile.TemporaryDirectory(dir="/dev/shm" if os.path.isdir("/dev/shm") else None) as room:
+        for kind in kinds:
+            one, two = (most_memory(it, big_script.script(kind), room) for it in programs)
+            found.append(one / two)
+            print(f"| {kind} | {one / 1e6:.1f} | {two / 1e6:.1f} | {one / two:.2f} |", flush=True)
+    mean = math.exp(sum(map(math.log, found)) / len(found))
+    print(f"\ngeometric mean {mean:.2f}, greatest {max(found):.2f}")
 
 
 if __name__ == "__main__":

@@ -1,11 +1,12 @@
 #!/usr/bin/env python3
 """Times two programs on the big scripts, and prints a table of the wall times in milliseconds, the best of some runs.
 
-usage: bench/timing.py PROGRAM OTHER [--runs N] [--sizes] [--null] [KIND..]
+usage: bench/timing.py PROGRAM OTHER [--runs N] [--sizes] [--null] [--word WORD] [KIND..]
 
 --runs N  N runs of each program on each script, in turns (7 where nothing is said)
 --sizes   scripts of 2^17 to 2^20 bytes, and how the time grows with the size: the exponent is near 1 where it is linear
 --null    the output goes to /dev/null, and not into a file
+--word    the word of the program, `session` or `trace`
 KIND      the kinds of bench/big_script.py, all where none is named
 
 The file of the output is in memory (/dev/shm), where the system has that. An empty script's time is subtracted where
@@ -26,8 +27,8 @@ SIZES = [1 << power for power in range(17, 21)]
 
 
 class Bench:
-    def __init__(self, room, programs, runs, null):
-        self.programs, self.runs = programs, runs
+    def __init__(self, room, programs, runs, null, word):
+        self.programs, self.runs, self.word = programs, runs, word
         self.script, self.output = f"{room}/script", "/dev/null" if null else f"{room}/output"
 
     def run(self, program):
@@ -35,7 +36,7 @@ class Bench:
         with open(self.script, "rb") as script, open(self.output, "wb") as output:
             streams = [(os.POSIX_SPAWN_DUP2, end.fileno(), at) for at, end in enumerate((script, output))]
             start = time.perf_counter()
-            _, status = os.waitpid(os.posix_spawn(program, [program], os.environ, file_actions=streams), 0)
+            _, status = os.waitpid(os.posix_spawn(program, [program, self.word], os.environ, file_actions=streams), 0)
             took = 1000 * (time.perf_counter() - start)
         if status:
             sys.exit(f"{program}: status {os.waitstatus_to_exitcode(status)}")
@@ -92,12 +93,13 @@ def main():
     words.add_argument("--runs", type=int, default=7)
     words.add_argument("--sizes", action="store_true")
     words.add_argument("--null", action="store_true")
+    words.add_argument("--word", choices=["session", "trace"], default="session")
     given = words.parse_intermixed_args()
     kinds = given.kinds or list(big_script.KINDS)
     if unknown := set(kinds) - set(big_script.KINDS):
         sys.exit(f"no such kind: {', '.join(sorted(unknown))}")
     with tempfile.TemporaryDirectory(dir="/dev/shm" if os.path.isdir("/dev/shm") else None) as room:
-        bench = Bench(room, [os.path.abspath(it) for it in given.programs], given.runs, given.null)
+        bench = Bench(room, [os.path.abspath(it) for it in given.programs], given.runs, given.null, given.word)
         (growth if given.sizes else ratios)(bench, kinds)
 
 

@@ -158,9 +158,9 @@ def change(chance, lines):
     return kind
 
 
-def text(seed):
-    """A random trace, in one of five unchanged, and what was done to it."""
-    chance, lines = random.Random(f"change {seed}"), trace(seed)
+def text(seed, lines):
+    """A trace, in one of five unchanged, and what was done to it."""
+    chance = random.Random(f"change {seed}")
     kind = "as it is" if seed % 5 == 0 else change(chance, lines)
     made = "".join(f"{line}\n" for line in lines)
     if seed % 50 == 1:
@@ -168,11 +168,11 @@ def text(seed):
     return made.encode(), kind
 
 
-def compare(answer, program, other, count, first):
+def compare(answer, program, other, made_traces):
     """Compares what two programs answer to texts. `answer` runs one on words and a text. Gives what the texts came to, or the first difference."""
     seen = collections.Counter()
-    for seed in range(first, first + count):
-        made, kind = text(seed)
+    for seed, lines in made_traces:
+        made, kind = text(seed, lines)
         one, two = answer(program, made, "check"), answer(other, made, "check")
         if one != two:
             return seen, (seed, made, one, two)

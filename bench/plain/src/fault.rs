@@ -29,7 +29,9 @@ impl Fault {
 impl fmt::Display for Fault {
     fn fmt(&self, f: &mut fmt::Formatter) -> fmt::Result {
         match self {
-            Fault::Usage => f.write_str("usage: nusb_sim [session|generate N|live N|disk N|check]"),
+            Fault::Usage => {
+                f.write_str("usage: nusb_sim [session|generate N|live N|disk N|trace|check]")
+            }
             Fault::Malformed(line) => write!(f, "nusb_sim: malformed line {line}"),
             Fault::TooLong => f.write_str("nusb_sim: script too long"),
             Fault::Read => f.write_str("nusb_sim: read fault"),

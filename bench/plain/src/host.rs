@@ -530,7 +530,7 @@ impl Host {
     /// Discards what is pending and unfinished, from the last to the first.
     pub fn cancel(&mut self, key: EndpointKey) {
         for ticket in self.endpoints[key].pending.iter().rev() {
-            self.kernel.discard(*ticket, errno::NOENT);
+            self.kernel.discard(*ticket);
         }
     }
 
@@ -545,7 +545,9 @@ impl Host {
     /// Discards and reaps all that is left.
     pub fn finish(&mut self) {
         for ticket in 0..self.kernel.transfers.len() {
-            self.kernel.discard(ticket, errno::NOENT);
+            self.kernel.discard(ticket);
+        }
+        for ticket in 0..self.kernel.transfers.len() {
             self.reap(ticket);
         }
     }

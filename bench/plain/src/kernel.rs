@@ -2,6 +2,7 @@
 
 use crate::descriptors::{Configuration, Direction, Setting, configurations};
 use crate::errno::{self, Errno};
+use crate::journal::Journal;
 use crate::names::{Name, Names};
 use crate::text::{Show, Text};
 use std::cmp::Reverse;
@@ -191,6 +192,7 @@ pub struct Kernel {
     finished: BinaryHeap<Reverse<Ticket>>,
     /// The deadlines of tickets, some of which may be finished.
     deadlines: BinaryHeap<Reverse<(u64, Ticket)>>,
+    pub journal: Journal,
 }
 
 impl Kernel {
@@ -370,7 +372,7 @@ impl Kernel {
                 break;
             }
             self.deadlines.pop();
-            self.discard(ticket, errno::NOENT);
+            self.discard(ticket);
         }
     }
 
@@ -383,19 +385,22 @@ impl Kernel {
             plug.open[usize::from(transfer.endpoint)].push_back(ticket);
         }
         self.unreaped += 1;
+        self.journal.submit(ticket, &transfer, deadline);
         self.transfers.push(transfer);
         ticket
     }
 
     /// Gives a refused transfer its ticket, which is finished and reaped at once.
     pub fn refuse(&mut self, transfer: Transfer, errno: Errno) -> Ticket {
+        let ticket = self.transfers.len();
+        self.journal.refuse(ticket, &transfer, errno);
         let outcome = Some(Outcome::Refused(errno));
         self.transfers.push(Transfer {
             outcome,
             is_reaped: true,
             ..transfer
         });
-        self.transfers.len() - 1
+        ticket
     }
 
     /// The oldest unfinished ticket of an endpoint.
@@ -458,15 +463,19 @@ impl Kernel {
         let Some(plug) = self.plugs.take(name) else {
             return;
         };
+        self.journal.event("unplug", name.into());
         for ticket in plug.open.into_iter().flatten() {
-            self.discard(ticket, errno::SHUTDOWN);
+            if self.transfers[ticket].outcome.is_none() {
+                self.finish(ticket, Outcome::Failed(errno::SHUTDOWN));
+            }
         }
     }
 
-    /// Ends a ticket that isn't finished.
-    pub fn discard(&mut self, ticket: Ticket, errno: Errno) {
+    /// Discards a ticket that isn't finished.
+    pub fn discard(&mut self, ticket: Ticket) {
         if self.transfers[ticket].outcome.is_none() {
-            self.finish(ticket, Outcome::Failed(errno));
+            self.journal.event("discard", ticket as u64);
+            self.finish(ticket, Outcome::Failed(errno::NOENT));
         }
     }
 
@@ -489,6 +498,7 @@ impl Kernel {
         }
         transfer.is_reaped = true;
         self.unreaped -= 1;
+        self.journal.event("reap", ticket as u64);
         Some(ticket)
     }
 
@@ -501,10 +511,12 @@ impl Kernel {
                 bytes,
             } => {
                 let ticket = self.oldest_towards(Direction::In, device, endpoint)?;
+                self.journal.packet(device, endpoint, &bytes);
                 self.packet(ticket, bytes);
             }
             Step::Acknowledge { device, endpoint } => {
                 let ticket = self.oldest_towards(Direction::Out, device, endpoint)?;
+                self.journal.acknowledge(device, endpoint);
                 self.acknowledge(ticket);
             }
             Step::Echo {
@@ -514,6 +526,7 @@ impl Kernel {
             } => {
                 let sender = self.oldest_towards(Direction::Out, device, output)?;
                 let taker = self.oldest_towards(Direction::In, device, input)?;
+                self.journal.echo(device, output, input);
                 self.echo(sender, taker);
             }
             Step::Fail {
@@ -522,6 +535,7 @@ impl Kernel {
                 errno,
             } => {
                 let ticket = self.oldest(device, endpoint)?;
+                self.journal.fail(device, endpoint, errno);
                 self.finish(ticket, Outcome::Failed(errno));
             }
             Step::Unplug { device } => self.unplug(device),

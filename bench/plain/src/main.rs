@@ -1,6 +1,6 @@
 //! The session of `nusb_sim` as plain Rust, by the rules of docs/SCRIPT.md: what the proved program
 //! is timed against and compared with. Beside it the words `generate N`, and `live N` by std's threads,
-//! lock and channels, `disk N`, and `check`. It has no status 7: where memory is wanting it aborts.
+//! lock and channels, `disk N`, `trace` and `check`. It has no status 7: where memory is wanting it aborts.
 
 mod answer;
 mod client;
@@ -12,6 +12,7 @@ mod fault;
 mod generated;
 mod hex;
 mod host;
+mod journal;
 mod kernel;
 mod live;
 mod names;
@@ -51,6 +52,8 @@ enum Task {
     Live(u32),
     /// So many rounds of commands at a disk.
     Disk(u32),
+    /// The trace of a session, whose answers are dropped.
+    Trace,
     /// A trace, which is checked.
     Check,
 }
@@ -70,6 +73,7 @@ fn read_words() -> Result<Task, Fault> {
         [word, count] if word == "generate" => count_of(count, MOST_MESSAGES).map(Task::Generate),
         [word, count] if word == "live" => count_of(count, MOST_TRANSFERS).map(Task::Live),
         [word, count] if word == "disk" => count_of(count, MOST_ROUNDS).map(Task::Disk),
+        [word] if word == "trace" => Ok(Task::Trace),
         [word] if word == "check" => Ok(Task::Check),
         _ => Err(Fault::Usage),
     }
@@ -113,14 +117,30 @@ fn run_session() -> Result<(), Fault> {
     write_answers(script, &mut out).map_err(|_| Fault::Write)
 }
 
+/// Runs a script for its journal alone.
+fn run_trace() -> Result<(), Fault> {
+    let script = Script::parse(&read_text(MOST_BYTES)?)?;
+    let mut session = Session::new(script.devices, script.tree, script.packets);
+    session.keep_journal();
+    for line in script.lines {
+        session.take(line);
+    }
+    session.finish();
+    write_whole(session.trace().as_bytes())
+}
+
+fn write_whole(bytes: &[u8]) -> Result<(), Fault> {
+    let mut out = io::stdout().lock();
+    out.write_all(bytes)
+        .and_then(|()| out.flush())
+        .map_err(|_| Fault::Write)
+}
+
 fn write_run(run: &dyn Show) -> Result<(), Fault> {
     let mut text = Text::default();
     run.show(&mut text);
     text.word("\n");
-    let mut out = io::stdout().lock();
-    out.write_all(text.as_bytes())
-        .and_then(|()| out.flush())
-        .map_err(|_| Fault::Write)
+    write_whole(text.as_bytes())
 }
 
 fn run() -> Result<(), Fault> {
@@ -129,6 +149,7 @@ fn run() -> Result<(), Fault> {
         Task::Generate(wanted) => write_run(&generated::run(wanted)),
         Task::Live(wanted) => write_run(&live::run(wanted)),
         Task::Disk(wanted) => write_run(&disk::run(wanted)),
+        Task::Trace => run_trace(),
         Task::Check => write_run(&trace::check(&read_text(MOST_TRACE_BYTES)?)?),
     }
 }

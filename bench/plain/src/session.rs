@@ -5,6 +5,7 @@ use crate::client::{Client, MessageFailure};
 use crate::control::{Future, Question, Received, units};
 use crate::descriptors::Direction;
 use crate::host::{Data, EndpointKey, Fate, Host, InterfaceKey, OpenDevice, Steps};
+use crate::journal::Journal;
 use crate::kernel::{Device, Step};
 use crate::names::{Name, Names};
 use crate::reader::{Framing, ReadFailure, Reader};
@@ -13,6 +14,7 @@ use crate::script::{
     Call, Claim, ClientCall, Control, DeviceCall, EndpointCall, InterfaceCall, Line, Open,
     OpenEndpoint, Patience, ReaderCall, SecondHandle, Target, WriterCall,
 };
+use crate::text::Text;
 use crate::tree::{DeviceInfo, Tree};
 use crate::udev::{self, Notice};
 use crate::writer::{WriteFailure, Writer};
@@ -639,6 +641,17 @@ impl Session {
             self.host.leave_interface(*interface);
         }
         self.host.finish();
+    }
+
+    /// Keeps the journal of what follows.
+    pub fn keep_journal(&mut self) {
+        self.host.kernel.journal = Journal::begun();
+    }
+
+    /// The trace of the run, once the session is finished.
+    pub fn trace(self) -> Text {
+        let kernel = self.host.kernel;
+        kernel.journal.end(&kernel.transfers)
     }
 
     /// How each ticket ended: once the session is finished all have.

@@ -6,7 +6,7 @@ use common::expect;
 use std::fs::File;
 use std::process::Command;
 
-const USAGE: &str = "usage: nusb_sim [session|generate N|live N|disk N|check]\n";
+const USAGE: &str = "usage: nusb_sim [session|generate N|live N|disk N|trace|check]\n";
 
 #[test]
 fn knows_no_word_and_session() {

@@ -1,4 +1,4 @@
-//! The word `check`: traces, and what stands in the way of being one.
+//! The words `trace` and `check`: traces, and what stands in the way of being one.
 
 mod common;
 
@@ -22,6 +22,64 @@ fn with(place: usize, line: &str) -> String {
     kept.map(|line| format!("{line}\n")).collect()
 }
 
+/// A script with these lines behind a device with a bulk IN and a bulk OUT endpoint of 64 bytes,
+/// which are opened as `e0` and `e1`.
+fn with_endpoints(lines: &str) -> String {
+    format!(
+        "device k0 1 5 3 1 12010002000000401234000100000000000109022000010100803209040000\
+         02ff0000000705810240000007050202400000\n\
+         open d0 1 5\nclaim d0 0 i0\nendpoint e0 i0 81 bulk-in\nendpoint e1 i0 02 bulk-out\n{lines}"
+    )
+}
+
+/// What it shows, the lines behind the opened endpoints, and the lines of the trace between its
+/// first and its last.
+const TRACED: [(&str, &str, &str); 6] = [
+    ("no transfer", "now\n", ""),
+    (
+        "a packet",
+        "submitin e0 64\n! pkt k0 81 010203\n! reap\npoll e0\n",
+        "submit 0 0 81 64 in 64 -\npkt 0 81 010203\nreap 0\nfate 0 ok 3\n",
+    ),
+    (
+        "a transfer that is open when the session ends",
+        "submitout e1 0a0b\n",
+        "submit 0 0 02 64 out 0a0b -\ndiscard 0\nreap 0\nfate 0 cancelled 0\n",
+    ),
+    (
+        "a refusal, and a step that finds nothing",
+        "! refuse k0 submit 19\nsubmitin e0 64\n! pkt k0 81 00\n",
+        "refuse 0 0 81 64 in 64 19\nfate 0 disconnected 0\n",
+    ),
+    (
+        "an echo",
+        "submitout e1 0a0b\nsubmitin e0 64\n! echo k0 02 81\n! reap 1\n",
+        "submit 0 0 02 64 out 0a0b -\nsubmit 1 0 81 64 in 64 -\necho 0 02 81\nreap 1\nreap 0\n\
+         fate 0 ok 2\nfate 1 ok 2\n",
+    ),
+    (
+        "a device that goes",
+        "dsubmitin e0 64 50\n! unplug k0\n! unplug k0\n",
+        "submit 0 0 81 64 in 64 50\nunplug 0\nreap 0\nfate 0 disconnected 0\n",
+    ),
+];
+
+#[test]
+fn writes_the_trace_of_a_script() {
+    for (name, lines, events) in TRACED {
+        let trace = format!("nusb-trace 1\n{events}end\n");
+        let script = with_endpoints(lines);
+        expect(name, &["trace"], script.as_bytes(), 0, &trace, "");
+        expect(name, &["check"], trace.as_bytes(), 0, "yes\n", "");
+    }
+}
+
+#[test]
+fn writes_no_trace_of_a_malformed_script() {
+    let report = "nusb_sim: malformed line 2\n";
+    expect("malformed", &["trace"], b"now\nnow 1\n", 3, "", report);
+}
+
 fn expect_malformed(name: &str, text: &str, line: usize) {
     let report = format!("nusb_sim: malformed line {line}\n");
     expect(name, &["check"], text.as_bytes(), 3, "", &report);
@@ -29,7 +87,7 @@ fn expect_malformed(name: &str, text: &str, line: usize) {
 
 #[test]
 fn knows_the_word() {
-    let usage = "usage: nusb_sim [session|generate N|live N|disk N|check]\n";
+    let usage = "usage: nusb_sim [session|generate N|live N|disk N|trace|check]\n";
     expect("check", &["check"], b"nusb-trace 1\nend\n", 0, "yes\n", "");
     expect("check 1", &["check", "1"], b"", 2, "", usage);
 }
