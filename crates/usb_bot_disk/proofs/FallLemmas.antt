@@ -26,7 +26,7 @@ use Rattle.usb_device_host.proofs.HostFrames.{uses-all}
 use Rattle.usb_bot_disk.specs.declared.stage.Stage.{Stage}
 use Rattle.usb_bot_disk.specs.declared.stage.Stage.TheVariants.{Listening, Taking, Sending, Refusing, Answering}
 use Rattle.usb_bot_disk.specs.Machine.{Machine, listens, taken, taken_at, machine_or, next_packet, weight}
-use Rattle.usb_bot_disk.specs.MachineFacts.{IsSound}
+use Rattle.usb_bot_disk.specs.MachineFacts.{IsSound, HasCome}
 use Rattle.usb_bot_disk.specs.Standing.{packets_open, packets_standing}
 use Rattle.usb_bot_disk.specs.DiskState.{DiskState, room_of}
 use Rattle.usb_bot_disk.specs.DiskTurns.{Action, Takes, Sends, some_if, next_taken, next_sent, fits_blank, failures, failures_at, steps_taken, steps_of, acted, with_room, possible, action_of}
@@ -161,25 +161,25 @@ module _ (b : DiskState) (p : List ℕ) (m : ℕ) (front : IsFront b.host.kernel
       (weight-light (acted b (Takes p m)).machine.disk (acted b (Takes p m)).machine.stage sound)
 
   -- an empty packet
-  takes-empty : (stage : Stage) → b.machine.stage ≡ stage → p ≡ [] → listens b.machine.stage ≡ true → length b.machine.got < 31 → IsSound (acted b (Takes p m)).machine.disk (acted b (Takes p m)).machine.stage → Less
-  takes-empty Listening at empty hears short sound =
-      less-strict sound (none-fewer (ap (λ (q : List ℕ). taken b.machine q m) empty ∙ empty-none b.machine m at short some))
-  takes-empty (Taking c left) at empty hears short sound =
+  takes-empty : (stage : Stage) → b.machine.stage ≡ stage → p ≡ [] → listens b.machine.stage ≡ true → HasCome b.machine.disk b.machine.got stage → IsSound (acted b (Takes p m)).machine.disk (acted b (Takes p m)).machine.stage → Less
+  takes-empty Listening at empty hears came sound =
+      less-strict sound (none-fewer (ap (λ (q : List ℕ). taken b.machine q m) empty ∙ empty-none b.machine m at came some))
+  takes-empty (Taking c left) at empty hears came sound =
       let now : weight (acted b (Takes p m)).machine.stage ≡ 14 =
       ap (λ (q : List ℕ). weight (machine_or b.machine (taken b.machine q m)).stage) empty
       ∙ ap (λ st. weight (machine_or b.machine (taken_at b.machine st [] m)).stage) at
       ∙ weight-empty b.machine c left m some in
       let was : weight b.machine.stage ≡ 15 = ap weight at in
       omega (arith, now, was, standing-quiet b b.device b.out (acted b (Takes p m)).host.kernel.past (quiet-all b.device b.out b.host (steps_of b (Takes p m))))
-  takes-empty (Sending c left) at empty hears short sound = absurd (false≢true (sym (ap listens at) ∙ hears))
-  takes-empty (Refusing c) at empty hears short sound = absurd (false≢true (sym (ap listens at) ∙ hears))
-  takes-empty (Answering s gone) at empty hears short sound = absurd (false≢true (sym (ap listens at) ∙ hears))
+  takes-empty (Sending c left) at empty hears came sound = absurd (false≢true (sym (ap listens at) ∙ hears))
+  takes-empty (Refusing c) at empty hears came sound = absurd (false≢true (sym (ap listens at) ∙ hears))
+  takes-empty (Answering s gone) at empty hears came sound = absurd (false≢true (sym (ap listens at) ∙ hears))
 
-  takes-falls : listens b.machine.stage ≡ true → length b.machine.got < 31 → IsSound (acted b (Takes p m)).machine.disk (acted b (Takes p m)).machine.stage → Less
-  takes-falls hears short sound = by p refl
+  takes-falls : listens b.machine.stage ≡ true → HasCome b.machine.disk b.machine.got b.machine.stage → IsSound (acted b (Takes p m)).machine.disk (acted b (Takes p m)).machine.stage → Less
+  takes-falls hears came sound = by p refl
     where
       by : (q : List ℕ) → p ≡ q → Less
-      by [] empty = takes-empty b.machine.stage refl empty hears short sound
+      by [] empty = takes-empty b.machine.stage refl empty hears came sound
       by (x ∷ xs) is = less-strict sound (takes-bytes x xs is)
 
 -- an action that is possible takes the packet that stands, or sends the next
@@ -220,14 +220,14 @@ action-possible b a is =
     there.1.0 ∙ ap (λ (x : Action). Some x) (is-so (nat_le (length (steps_of b there.0)) (room_of b.host)) there.0 a there.1.1).1
 
 -- the number of a bus falls with its action
-pub acted-falls : (b : DiskState) (a : Action) → action_of b ≡ Some a → IsSound b.machine.disk b.machine.stage → length b.machine.got < 31 → (listens b.machine.stage ≡ true → IsSound (acted b a).machine.disk (acted b a).machine.stage) →
+pub acted-falls : (b : DiskState) (a : Action) → action_of b ≡ Some a → IsSound b.machine.disk b.machine.stage → HasCome b.machine.disk b.machine.got b.machine.stage → (listens b.machine.stage ≡ true → IsSound (acted b a).machine.disk (acted b a).machine.stage) →
     length (tickets (acted b a).host.kernel.past) < 2 ^ 64 → (disk_bus_of (acted b a)).turns_left < (disk_bus_of b).turns_left
-acted-falls b a is sound short next few =
+acted-falls b a is sound came next few =
     number-falls b a few (elim (cases_Bool (listens b.machine.stage)) [
       | inl hears ↦
           let take_ = is-take b a (sym (ap (λ v. cond v (next_taken b) (next_sent b)) hears) ∙ action-possible b a is) in
           subst (λ (x : Action). packet_weight * packets_standing (acted b x).host.kernel.past b.device b.out + weight (acted b x).machine.stage < packet_weight * packets_standing b.host.kernel.past b.device b.out + weight b.machine.stage) take_.is
-          (takes-falls b take_.p take_.m take_.front take_.some hears short (subst (λ (x : Action). IsSound (acted b x).machine.disk (acted b x).machine.stage) (sym take_.is) (next hears)))
+          (takes-falls b take_.p take_.m take_.front take_.some hears came (subst (λ (x : Action). IsSound (acted b x).machine.disk (acted b x).machine.stage) (sym take_.is) (next hears)))
       | inr quiet ↦
           let send = is-send b a (sym (ap (λ v. cond v (next_taken b) (next_sent b)) quiet) ∙ action-possible b a is) in
           subst (λ (x : Action). packet_weight * packets_standing (acted b x).host.kernel.past b.device b.out + weight (acted b x).machine.stage < packet_weight * packets_standing b.host.kernel.past b.device b.out + weight b.machine.stage) send.is

@@ -1,21 +1,20 @@
 -- How the disk goes on in a command, packet by packet.
-use Rattle.std.proofs.Common.{◌≡◌, ℕ, ◌+◌, ◌-◌, ◌*◌, ◌^◌, ◌<◌, ◌≤◌, List, [], ◌++◌, length, take, drop, min, Some, None, ◌⊎◌, inl, inr, true, false, refl, sym, ap, ◌∙◌, arith}
+use Rattle.std.proofs.Common.{◌≡◌, ℕ, ◌+◌, ◌-◌, ◌*◌, ◌^◌, ◌<◌, ◌≤◌, List, [], ◌++◌, length, take, drop, min, Some, None, Option, Bool, ◌⊎◌, inl, inr, true, false, refl, sym, ap, ◌∙◌, arith}
 use Rattle.std.specs.Prelude.{nat_le, nat_lt, cond, ◌||◌}
 use Rattle.std.specs.Option.{option_map}
 use Rattle.std.proofs.Math.Seq.{take-add}
 use Rattle.std.proofs.Math.Bool.{or-true}
 use Rattle.std.proofs.lemmas.List.{length-append, length-take, length-drop, take_all, drop-drop, drop-take}
-use Rattle.std.proofs.lemmas.Bool.{le-leb, lt-ltb}
+use Rattle.std.proofs.lemmas.Bool.{le-leb, lt-ltb, false≢true}
 use Rattle.std.proofs.lemmas.Bool.Decides.{nat_tests}
 use Rattle.usb_bot.specs.declared.wrapper.Command.{Command}
 use Rattle.usb_bot.specs.declared.wrapper.Status.{Status}
 use Rattle.usb_bot_disk.specs.declared.stage.Stage.{Stage}
-use Rattle.usb_bot_disk.specs.declared.stage.Stage.TheVariants.{Listening, Taking, Sending, Answering}
+use Rattle.usb_bot_disk.specs.declared.stage.Stage.TheVariants.{Listening, Taking, Sending, Refusing, Answering}
 use Rattle.usb_bot.specs.Wrappers.{data_length, command_bytes, command_in}
 use Rattle.usb_bot_disk.specs.Blocks.{overwritten, blocks_at}
-use Rattle.usb_bot_disk.specs.Machine.{Machine, end_of, passes_end, begun, taken, taken_at, data_over, stored, heard, to_send, next_packet, sent, sent_at, status_for}
+use Rattle.usb_bot_disk.specs.Machine.{Machine, end_of, passes_end, listens, begun, taken, taken_at, machine_or, data_came, data_over, stored, heard, to_send, next_packet, sent, sent_at, status_for}
 use Rattle.usb_bot.proofs.WrapperLemmas.{command_read, no_command}
-use Rattle.usb_bot_disk.proofs.BlockLemmas.{written-more, written-length}
 
 pub not-le : (a b : ℕ) → b < a → nat_le a b ≡ false
 not-le a b below = grind (arith, nat_tests)
@@ -82,6 +81,32 @@ heard-last k c maximum n tag block count last got stage =
     let joined : k.got ++ packet_at bytes maximum n ≡ bytes = rw got (sym (take-add n maximum bytes)) ∙ take_all (n + maximum) bytes last in
     rw stage (rw joined (heard-end k bytes (packet_at bytes maximum n) maximum c refl (command_read c tag block count)))
 
+-- a disk that still waits for a packet behind one has the blocks that it had
+heard-kept : (k : Machine) (o : Option Command) → (machine_or k (option_map (λ (c : Command). record k { got = []; stage = begun k.disk c }) o)).disk ≡ k.disk
+heard-kept k None = refl
+heard-kept k (Some c) = refl
+
+heard-kept_if : (k : Machine) (over : Bool) (joined : List ℕ) → (machine_or k (cond over (option_map (λ (c : Command). record k { got = []; stage = begun k.disk c }) (command_in joined)) (Some (record k { got = joined })))).disk ≡ k.disk
+heard-kept_if k true joined = heard-kept k (command_in joined)
+heard-kept_if k false joined = refl
+
+data-kept : (k : Machine) (over : Bool) (c : Command) (left : ℕ) (next : Machine) → next.disk ≡ k.disk → listens (cond over (data_over next c left) next).stage ≡ true → (cond over (data_over next c left) next).disk ≡ k.disk
+data-kept k true c left next same hears = absurd (false≢true hears)
+data-kept k false c left next same hears = same
+
+kept-at : (k : Machine) (stage : Stage) (packet : List ℕ) (maximum : ℕ) → listens (machine_or k (taken_at k stage packet maximum)).stage ≡ true → (machine_or k (taken_at k stage packet maximum)).disk ≡ k.disk
+kept-at k Listening packet maximum hears =
+    heard-kept_if k (nat_le 31 (length (k.got ++ packet)) || nat_lt (length packet) maximum) (k.got ++ packet)
+kept-at k (Taking c left) packet maximum hears =
+    data-kept k (nat_le left (length packet) || nat_lt (length packet) maximum) c (left - length (take left packet)) (data_came k c left (take left packet)) refl hears
+kept-at k (Sending c left) packet maximum hears = refl
+kept-at k (Refusing c) packet maximum hears = refl
+kept-at k (Answering s gone) packet maximum hears = refl
+
+pub kept_listening : (k next : Machine) (packet : List ℕ) (maximum : ℕ) → next ≡ machine_or k (taken k packet maximum) → listens next.stage ≡ true → next.disk ≡ k.disk
+kept_listening k next packet maximum is hears =
+    ap (λ (x : Machine). x.disk) is ∙ kept-at k k.stage packet maximum (ap (λ (x : Machine). listens x.stage) (sym is) ∙ hears)
+
 -- the status of a command that passed
 abbrev pub passed : Command → Status
 passed c = record { tag = c.tag; residue = 0; outcome = 0 }
@@ -89,65 +114,65 @@ passed c = record { tag = c.tag; residue = 0; outcome = 0 }
 status_for-passed : (disk : List ℕ) (c : Command) → end_of c ≤ length disk → status_for disk c 0 ≡ passed c
 status_for-passed disk c within = rw (not-lt (length disk) (end_of c) within) refl
 
--- a disk that has taken the first n bytes of the data of a WRITE(10)
+-- a disk that has gathered the first n bytes of the data of a WRITE(10), and stored none
 pub record Takes (disk : List ℕ) (c : Command) (bytes : List ℕ) (n : ℕ) (k : Machine) : Type 0 where
-  pub disk_is : k.disk ≡ overwritten disk (512 * c.block) (take n bytes)
-  pub got : k.got ≡ []
+  pub disk_is : k.disk ≡ disk
+  pub got : k.got ≡ take n bytes
   pub stage : k.stage ≡ Taking c (data_length c - n)
 
-module _ (disk : List ℕ) (c : Command) (bytes : List ℕ) (maximum n : ℕ) (k : Machine) (long : length bytes ≡ data_length c) (within : end_of c ≤ length disk) (inside : n ≤ length bytes) (takes : Takes disk c bytes n k) where
-  front : length (take n bytes) ≡ n
-  front = omega (arith, length-take n bytes, inside)
+module _ (disk : List ℕ) (c : Command) (bytes : List ℕ) (maximum n : ℕ) (k : Machine) (long : length bytes ≡ data_length c) (within : end_of c ≤ length disk) (takes : Takes disk c bytes n k) where
+  abbrev p : List ℕ
+  p = packet_at bytes maximum n
 
-  same-length : length k.disk ≡ length disk
-  same-length = ap length takes.disk_is ∙ written-length disk (take n bytes) (512 * c.block) (omega (arith, front, long, within, inside))
+  abbrev left : ℕ
+  left = data_length c - n
 
-  stored-disk : (stored k c (data_length c - n) (take (data_length c - n) (packet_at bytes maximum n))).disk ≡ overwritten disk (512 * c.block) (take (n + maximum) bytes)
-  stored-disk =
-      let p = packet_at bytes maximum n in
-      let there : passes_end k.disk c ≡ false = not-lt (length k.disk) (end_of c) (omega (arith, same-length, within)) in
-      let place : end_of c - (data_length c - n) ≡ 512 * c.block + length (take n bytes) = omega (arith, front, long, inside) in
-      let whole : take (data_length c - n) p ≡ p = take_all (data_length c - n) p (omega (arith, packet-length bytes maximum n, long)) in
-      ap (λ v. cond v k.disk (overwritten k.disk (end_of c - (data_length c - n)) (take (data_length c - n) p))) there
-      ∙ ap (λ x. overwritten k.disk (end_of c - (data_length c - n)) x) whole
-      ∙ ap (λ x. overwritten k.disk x p) place
-      ∙ ap (λ d. overwritten d (512 * c.block + length (take n bytes)) p) takes.disk_is
-      ∙ written-more disk (take n bytes) p (512 * c.block) (omega (arith, within))
-      ∙ ap (overwritten disk (512 * c.block)) (sym (take-add n maximum bytes))
+  abbrev next : Machine
+  next = data_came k c left (take left p)
+
+  there : passes_end k.disk c ≡ false
+  there = ap (λ d. passes_end d c) takes.disk_is ∙ not-lt (length disk) (end_of c) within
+
+  gathers : next.got ≡ take (n + maximum) bytes
+  gathers =
+      let whole : take left p ≡ p = take_all left p (omega (arith, packet-length bytes maximum n, long)) in
+      ap (λ v. cond v k.got (k.got ++ take left p)) there
+      ∙ ap (λ x. k.got ++ x) whole
+      ∙ ap (λ g. g ++ p) takes.got
+      ∙ sym (take-add n maximum bytes)
+
+  stores : length bytes ≤ n + maximum → stored next c ≡ overwritten disk (512 * c.block) bytes
+  stores last =
+      ap (λ v. cond v k.disk (overwritten k.disk (512 * c.block) next.got)) there
+      ∙ ap (overwritten k.disk (512 * c.block)) (gathers ∙ take_all (n + maximum) bytes last)
+      ∙ ap (λ d. overwritten d (512 * c.block) bytes) takes.disk_is
 
   -- a packet of the data that is not the last
-  pub takes-more : n + maximum < length bytes →
-      (taken k (packet_at bytes maximum n) maximum ≡ Some (stored k c (data_length c - n) (take (data_length c - n) (packet_at bytes maximum n))))
-      × Takes disk c bytes (n + maximum) (stored k c (data_length c - n) (take (data_length c - n) (packet_at bytes maximum n)))
+  pub takes-more : n + maximum < length bytes → (taken k p maximum ≡ Some next) × Takes disk c bytes (n + maximum) next
   takes-more more =
-      let p = packet_at bytes maximum n in
       let full : length p ≡ maximum = omega (arith, packet-length bytes maximum n, more) in
-      let shown : length (take (data_length c - n) p) ≡ maximum = omega (arith, length-take (data_length c - n) p, full, long, more) in
-      let on : (nat_le (data_length c - n) (length p) || nat_lt (length p) maximum) ≡ false =
-      rw (not-le (data_length c - n) (length p) (omega (arith, full, long, more)), not-lt (length p) maximum (omega (arith, full))) refl in
-      let fewer : data_length c - n - length (take (data_length c - n) p) ≡ data_length c - (n + maximum) = omega (arith, shown) in (
+      let shown : length (take left p) ≡ maximum = omega (arith, length-take left p, full, long, more) in
+      let on : (nat_le left (length p) || nat_lt (length p) maximum) ≡ false =
+      rw (not-le left (length p) (omega (arith, full, long, more)), not-lt (length p) maximum (omega (arith, full))) refl in
+      let fewer : left - length (take left p) ≡ data_length c - (n + maximum) = omega (arith, shown) in (
         ap (λ st. taken_at k st p maximum) takes.stage
-            ∙ ap (λ v. Some (cond v (data_over (stored k c (data_length c - n) (take (data_length c - n) p)) c (data_length c - n - length (take (data_length c - n) p))) (stored k c (data_length c - n) (take (data_length c - n) p)))) on,
-        record { disk_is = stored-disk; got = takes.got; stage = ap (Taking c) fewer },
+            ∙ ap (λ v. Some (cond v (data_over next c (left - length (take left p))) next)) on,
+        record { disk_is = takes.disk_is; got = gathers; stage = ap (Taking c) fewer },
       )
 
-  -- and the last
+  -- and the last: what came is stored
   pub takes-last : length bytes ≤ n + maximum →
-      taken k (packet_at bytes maximum n) maximum ≡ Some (record { disk = overwritten disk (512 * c.block) bytes; got = []; stage = Answering (passed c) 0 })
+      taken k p maximum ≡ Some (record { disk = overwritten disk (512 * c.block) bytes; got = []; stage = Answering (passed c) 0 })
   takes-last last =
-      let p = packet_at bytes maximum n in
-      let all : length p ≡ data_length c - n = omega (arith, packet-length bytes maximum n, long, last) in
-      let none : data_length c - n - length (take (data_length c - n) p) ≡ 0 = omega (arith, length-take (data_length c - n) p, all) in
-      let over : (nat_le (data_length c - n) (length p) || nat_lt (length p) maximum) ≡ true = rw (le-leb (data_length c - n) (length p) (omega (arith, all))) refl in
-      let disk_is : (stored k c (data_length c - n) (take (data_length c - n) p)).disk ≡ overwritten disk (512 * c.block) bytes =
-      stored-disk ∙ ap (overwritten disk (512 * c.block)) (take_all (n + maximum) bytes last) in
-      let fits : end_of c ≤ length (overwritten disk (512 * c.block) bytes) = omega (arith, within, written-length disk bytes (512 * c.block) (omega (arith, long, within))) in
+      let all : length p ≡ left = omega (arith, packet-length bytes maximum n, long, last) in
+      let none : left - length (take left p) ≡ 0 = omega (arith, length-take left p, all) in
+      let over : (nat_le left (length p) || nat_lt (length p) maximum) ≡ true = rw (le-leb left (length p) (omega (arith, all))) refl in
       ap (λ st. taken_at k st p maximum) takes.stage
-      ∙ ap (λ v. Some (cond v (data_over (stored k c (data_length c - n) (take (data_length c - n) p)) c (data_length c - n - length (take (data_length c - n) p))) (stored k c (data_length c - n) (take (data_length c - n) p)))) over
-      ∙ ap (λ m. Some (data_over (stored k c (data_length c - n) (take (data_length c - n) p)) c m)) none
-      ∙ ap (λ d. Some (record { disk = d; got = k.got; stage = Answering (status_for d c 0) 0 })) disk_is
-      ∙ ap (λ g. Some (record { disk = overwritten disk (512 * c.block) bytes; got = g; stage = Answering (status_for (overwritten disk (512 * c.block) bytes) c 0) 0 })) takes.got
-      ∙ ap (λ st. Some (record { disk = overwritten disk (512 * c.block) bytes; got = []; stage = Answering st 0 })) (status_for-passed (overwritten disk (512 * c.block) bytes) c fits)
+      ∙ ap (λ v. Some (cond v (data_over next c (left - length (take left p))) next)) over
+      ∙ ap (λ m. Some (data_over next c m)) none
+      ∙ ap (λ d. Some (made d [] (Answering (status_for k.disk c 0) 0))) (stores last)
+      ∙ ap (λ d. Some (made (overwritten disk (512 * c.block) bytes) [] (Answering (status_for d c 0) 0))) takes.disk_is
+      ∙ ap (λ st. Some (made (overwritten disk (512 * c.block) bytes) [] (Answering st 0))) (status_for-passed disk c within)
 
 -- a disk that has sent the first n bytes of the data of a READ(10)
 pub record Sends (disk : List ℕ) (c : Command) (n : ℕ) (k : Machine) : Type 0 where

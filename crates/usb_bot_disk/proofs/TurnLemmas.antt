@@ -12,7 +12,7 @@ use Rattle.usb_device_host.specs.HostBus.{bus_of}
 use Rattle.usb_device_host.specs.HostTurns.{host_turned, host_turn}
 use Rattle.usb_device_host.proofs.HostFrames.{uses-all}
 use Rattle.usb_bot_disk.specs.Machine.{listens}
-use Rattle.usb_bot_disk.specs.MachineFacts.{IsSound}
+use Rattle.usb_bot_disk.specs.MachineFacts.{IsSound, HasCome}
 use Rattle.usb_bot_disk.specs.DiskState.{DiskState}
 use Rattle.usb_bot_disk.specs.DiskTurns.{Action, steps_of, action_of, acted, acted_by, turned_by, turn_by, disk_turned, disk_turn}
 use Rattle.usb_bot_disk.specs.DiskCalls.{with_load, disk_bus_of, with_host}
@@ -55,13 +55,13 @@ module _ (b new : DiskState) (has : HasActed b new) where
       let a = the-action (action_of b) has.acts in
       subst (λ (x : DiskState). IsLater (disk_bus_of b) (disk_bus_of x)) (sym (made a.0 a.1)) (later-disk b (acted b a.0) (uses-all b.host (steps_of b a.0)).later)
 
-  pub acted-less : IsSound b.machine.disk b.machine.stage → length b.machine.got < 31 → (listens b.machine.stage ≡ true → IsSound new.machine.disk new.machine.stage) → length (tickets new.host.kernel.past) < 2 ^ 64 →
+  pub acted-less : IsSound b.machine.disk b.machine.stage → HasCome b.machine.disk b.machine.got b.machine.stage → (listens b.machine.stage ≡ true → IsSound new.machine.disk new.machine.stage) → length (tickets new.host.kernel.past) < 2 ^ 64 →
       (disk_bus_of new).turns_left < (disk_bus_of b).turns_left
-  acted-less sound short next few =
+  acted-less sound came next few =
       let a = the-action (action_of b) has.acts in
       let is = made a.0 a.1 in
       subst (λ (x : DiskState). (disk_bus_of x).turns_left < (disk_bus_of b).turns_left) (sym is)
-      (acted-falls b a.0 a.1 sound short (subst (λ (x : DiskState). listens b.machine.stage ≡ true → IsSound x.machine.disk x.machine.stage) is next)
+      (acted-falls b a.0 a.1 sound came (subst (λ (x : DiskState). listens b.machine.stage ≡ true → IsSound x.machine.disk x.machine.stage) is next)
       (subst (λ (x : DiskState). length (tickets x.host.kernel.past) < 2 ^ 64) is few))
 
 module _ (b mid : DiskState) (has : HasNotActed b mid) where

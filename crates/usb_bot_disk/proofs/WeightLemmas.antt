@@ -10,7 +10,7 @@ use Rattle.usb_bot.specs.Wrappers.{data_length, status_bytes}
 use Rattle.usb_bot.proofs.WrapperLemmas.{no_command}
 use Rattle.usb_bot_disk.specs.declared.stage.Stage.{Stage}
 use Rattle.usb_bot_disk.specs.declared.stage.Stage.TheVariants.{Listening, Taking, Sending, Refusing, Answering}
-use Rattle.usb_bot_disk.specs.Machine.{Machine, end_of, begun, status_for, listens, taken, taken_at, machine_or, taken_data, data_over, stored, to_send, sent_at, weight}
+use Rattle.usb_bot_disk.specs.Machine.{Machine, end_of, begun, status_for, listens, taken, taken_at, machine_or, taken_data, data_came, data_over, to_send, sent_at, weight}
 use Rattle.usb_bot_disk.specs.MachineFacts.{IsSound}
 use Rattle.usb_bot_disk.proofs.MachineLemmas.{listens_over, not-le}
 
@@ -61,7 +61,7 @@ weight-sent disk (Answering s gone) m sound some quiet =
 -- an empty packet ends the data of a WRITE(10)
 weight-over : (k : Machine) (c : Command) (left m : ℕ) (packet : List ℕ) → (nat_le left (length packet) || nat_lt (length packet) m) ≡ true → weight (taken_data k c left packet m).stage ≡ 14
 weight-over k c left m packet over =
-    ap (λ v. weight (cond v (data_over (stored k c left (take left packet)) c (left - length (take left packet))) (stored k c left (take left packet))).stage) over
+    ap (λ v. weight (cond v (data_over (data_came k c left (take left packet)) c (left - length (take left packet))) (data_came k c left (take left packet))).stage) over
 
 pub weight-empty : (k : Machine) (c : Command) (left m : ℕ) → 0 < m → weight (machine_or k (taken_at k (Taking c left) [] m)).stage ≡ 14
 weight-empty k c left m some = weight-over k c left m [] (ap (λ v. nat_le left 0 || v) (lt-ltb 0 m some) ∙ or-true (nat_le left 0))

@@ -10,7 +10,8 @@ use Rattle.usb_bot_disk.specs.declared.stage.Stage.TheVariants.{Listening, Takin
 use Rattle.usb_bot.specs.Wrappers.{data_length, command_in, status_bytes}
 use Rattle.usb_bot_disk.specs.Blocks.{overwritten}
 
--- the bytes of all blocks, the bytes of a wrapper that have come, and the stage
+-- the bytes of all blocks; the bytes that have come, of a wrapper or of the data of a write whose
+-- blocks are there; and the stage
 pub record Machine : Type 0 where
   pub disk : List ℕ
   pub got : List ℕ
@@ -53,23 +54,28 @@ heard k joined packet maximum =
     then option_map (λ c. record k { got = []; stage = begun k.disk c }) (command_in joined)
     else Some (record k { got = joined })
 
--- data came, of which n bytes were asked for
-abbrev pub stored : Machine → Command → ℕ → List ℕ → Machine
-stored k c left bytes =
+-- data came, where so many bytes were still to come. They are gathered, if the blocks are there
+abbrev pub data_came : Machine → Command → ℕ → List ℕ → Machine
+data_came k c left bytes =
     record k {
-      disk = if passes_end k.disk c then k.disk else overwritten k.disk (end_of c - left) bytes;
+      got = if passes_end k.disk c then k.got else k.got ++ bytes;
       stage = Taking c (left - length bytes);
     }
 
--- it was the last
+-- the blocks with the data that have come
+abbrev pub stored : Machine → Command → List ℕ
+stored k c = if passes_end k.disk c then k.disk else overwritten k.disk (512 * c.block) k.got
+
+-- the data are over, where so many bytes did not come: what came is stored
 abbrev pub data_over : Machine → Command → ℕ → Machine
-data_over k c left = record k { stage = Answering (status_for k.disk c left) 0 }
+data_over k c left =
+    record { disk = stored k c; got = []; stage = Answering (status_for k.disk c left) 0 }
 
 abbrev pub taken_data : Machine → Command → ℕ → List ℕ → ℕ → Machine
 taken_data k c left packet maximum =
     if nat_le left (length packet) || nat_lt (length packet) maximum
-    then data_over (stored k c left (take left packet)) c (left - length (take left packet))
-    else stored k c left (take left packet)
+    then data_over (data_came k c left (take left packet)) c (left - length (take left packet))
+    else data_came k c left (take left packet)
 
 -- the machine with a packet that it took, where the endpoint has this maximum packet size. None
 -- where what came was no wrapper; and a disk that sends takes none

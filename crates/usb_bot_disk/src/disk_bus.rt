@@ -19,7 +19,7 @@ ghost use Rattle.usb_device_host.specs.HostLaws.{held-owned, value-held};
 ghost use Rattle.usb_device_host.specs.TicketEnds.{host_taken};
 ghost use Rattle.usb_device_host.specs.DeviceHandles.{handles-same, handles-in_turn};
 ghost use Rattle.usb_bot_disk.specs.Machine.{listens};
-ghost use Rattle.usb_bot_disk.specs.MachineFacts.{IsSound};
+ghost use Rattle.usb_bot_disk.specs.MachineFacts.{IsSound, HasCome};
 ghost use Rattle.usb_bot_disk.specs.DiskState.{DiskState, disk_made};
 ghost use Rattle.usb_bot_disk.specs.DiskTurns.{next_taken, next_sent, with_room, action_of, acted_by};
 ghost use Rattle.usb_bot_disk.specs.DiskCalls.{length_by, full_packets, is_inp, dropped_by, prepared, disk_submitted, with_host, disk_bus_of, disk_calls, DiskHandlesStand};
@@ -27,7 +27,6 @@ ghost use Rattle.usb_bot_disk.specs.DiskBusFacts.{state-taken};
 
 use crate::blanks::Blanks;
 use crate::block_disk::BlockDisk;
-use crate::machine::DiskMachine;
 use std::marker::Model;
 use usb_desc::NoMemory;
 use usb_device_endpoint::{Bus, Route, Turn};
@@ -46,7 +45,7 @@ pub struct DiskBus {
     device: u8,
     out: u8,
     inp: u8,
-    machine: DiskMachine,
+    machine: BlockDisk,
     blanks: Blanks,
 }
 
@@ -155,7 +154,7 @@ impl DiskBus {
     /// A bus whose disk has not got a byte yet. It answers what comes to the OUT endpoint `out` of
     /// the device with this number at the kernel, on the IN endpoint `inp`.
     pub fn new(host: Host, disk: BlockDisk, device: u8, out: u8, inp: u8) -> DiskBus
-        ensures bus { result ≡ disk_made host disk device out inp }
+        ensures bus { result ≡ disk_made host disk.disk device out inp }
         // an endpoint that stands at the host stands on the bus
         ensures stand { (e : EndpointState) → Stands (bus_of host) e →
             Stands (disk_bus_of result) e }
@@ -166,7 +165,7 @@ impl DiskBus {
             device,
             out,
             inp,
-            machine: DiskMachine::new(disk),
+            machine: disk.restarted(),
             blanks,
         }
     }
@@ -179,11 +178,11 @@ impl DiskBus {
         &mut self.host
     }
 
-    /// The blocks of the disk, as they are now.
+    /// The disk, as it is now.
     pub fn disk(&self) -> &BlockDisk
-        ensures blocks { result.now ≡ self.now.machine.disk }
+        ensures disk { result.now ≡ self.now.machine }
     {
-        self.machine.disk()
+        &self.machine
     }
 
     /// Whether a route leads to the endpoint on which the disk sends.
@@ -262,7 +261,7 @@ impl DiskBus {
         ensures acts { result ≡ is_some (action_of self.old) }
         ensures bus { self.new ≡ acted_by self.old (action_of self.old) }
         ensures before { IsSound self.old.machine.disk self.old.machine.stage }
-        ensures short { length self.old.machine.got < 31 }
+        ensures came { HasCome self.old.machine.disk self.old.machine.got self.old.machine.stage }
         ensures after { OnTrue result (listens self.old.machine.stage ≡ true
             → IsSound self.new.machine.disk self.new.machine.stage) }
     {

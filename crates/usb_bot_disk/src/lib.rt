@@ -5,9 +5,8 @@
 mod blank;
 mod blanks;
 mod block_disk;
+mod blocks;
 mod disk_bus;
-mod gathered;
-mod machine;
 mod stage;
 
 pub use block_disk::BlockDisk;

@@ -16,3 +16,4 @@ pub mod CommandRuns
 pub mod CallLemmas
 pub mod LawLemmas
 pub mod WorkedExchanges
+pub mod GatheringLemmas

@@ -1,14 +1,14 @@
 -- How a disk takes a wrapper and the data of a write, whatever the packets are.
-use Rattle.std.proofs.Common.{◌≡◌, ℕ, ◌+◌, ◌-◌, ◌*◌, ◌^◌, ◌<◌, ◌≤◌, List, [], ◌++◌, length, take, drop, Some, true, false, cond, refl, sym, ap, ◌∙◌, arith, append-nil}
+use Rattle.std.proofs.Common.{◌≡◌, ℕ, ◌+◌, ◌-◌, ◌*◌, ◌^◌, ◌<◌, ◌≤◌, List, [], ◌++◌, length, take, Some, true, false, cond, refl, ap, ◌∙◌, arith}
 use Rattle.std.specs.Prelude.{nat_le, nat_lt, ◌||◌}
-use Rattle.std.proofs.lemmas.List.{length-take, take-append-drop}
+use Rattle.std.proofs.lemmas.List.{length-take}
 use Rattle.std.proofs.lemmas.Bool.{le-leb, lt-ltb}
 use Rattle.usb_bot.specs.declared.wrapper.Command.{Command}
 use Rattle.usb_bot.specs.declared.wrapper.Status.{Status}
 use Rattle.usb_bot.specs.Wrappers.{data_length, command_bytes}
 use Rattle.usb_bot_disk.specs.declared.stage.Stage.TheVariants.{Listening, Taking, Answering}
 use Rattle.usb_bot_disk.specs.Blocks.{overwritten}
-use Rattle.usb_bot_disk.specs.Machine.{Machine, end_of, passes_end, listens, begun, taken, taken_at, data_over, stored, status_for}
+use Rattle.usb_bot_disk.specs.Machine.{Machine, end_of, passes_end, listens, begun, taken, taken_at, data_came, data_over, status_for}
 use Rattle.usb_bot_disk.proofs.MachineLemmas.{made, packet_at, packet-length, not-le, not-lt, heard-more, heard-last, passed, Takes, takes-more, takes-last}
 use Rattle.usb_bot_law.proofs.OutStages.{TakesAll}
 
@@ -45,23 +45,18 @@ pub takes-data : (disk : List ℕ) (c : Command) (bytes : List ℕ) (maximum : �
 takes-data disk c bytes maximum long within = record {
   hears = λ n m at. ap listens at.stage;
   more = λ n m at more.
-      let next = takes-more disk c bytes maximum n m long within (omega (arith, more)) at more in (
-        stored m c (data_length c - n) (take (data_length c - n) (packet_at bytes maximum n)),
+      let next = takes-more disk c bytes maximum n m long within at more in (
+        data_came m c (data_length c - n) (take (data_length c - n) (packet_at bytes maximum n)),
         next,
       );
-  last = λ n m at inside last. takes-last disk c bytes maximum n m long within (omega (arith, inside)) at last;
+  last = λ n m at inside last. takes-last disk c bytes maximum n m long within at last;
 }
 
 -- before the first of them
-nothing-written : (disk : List ℕ) (at : ℕ) → overwritten disk at [] ≡ disk
-nothing-written disk at =
-    let here : at + 0 ≡ at = omega arith in
-    ap (λ (front : List ℕ). front ++ drop (at + 0) disk) (append-nil (take at disk)) ∙ ap (λ n. take at disk ++ drop n disk) here ∙ take-append-drop at disk
-
 pub takes-first : (disk : List ℕ) (c : Command) (bytes : List ℕ) → Takes disk c bytes 0 (made disk [] (Taking c (data_length c)))
 takes-first disk c bytes =
     let all : data_length c ≡ data_length c - 0 = omega arith in
-    record { disk_is = sym (nothing-written disk (512 * c.block)); got = refl; stage = ap (Taking c) all }
+    record { disk_is = refl; got = refl; stage = ap (Taking c) all }
 
 -- the status of a command that asks for blocks that are not there
 abbrev pub failed : Command → Status
@@ -84,13 +79,13 @@ module _ (disk : List ℕ) (c : Command) (bytes : List ℕ) (maximum : ℕ) (lon
   left = data_length c - n
 
   abbrev next : Machine
-  next = stored m c left (take left p)
+  next = data_came m c left (take left p)
 
   passes : passes_end m.disk c ≡ true
   passes = ap (λ (d : List ℕ). nat_lt (length d) (end_of c)) at.disk_is ∙ lt-ltb (length disk) (end_of c) beyond
 
-  kept : next.disk ≡ disk
-  kept = ap (λ v. cond v m.disk (overwritten m.disk (end_of c - left) (take left p))) passes ∙ at.disk_is
+  dropped : next.got ≡ []
+  dropped = ap (λ v. cond v m.got (m.got ++ take left p)) passes ∙ at.got
 
   drops-more : n + maximum < length bytes → (x : Machine) × ((taken m p maximum ≡ Some x) × Drops disk c (n + maximum) x)
   drops-more more =
@@ -103,7 +98,7 @@ module _ (disk : List ℕ) (c : Command) (bytes : List ℕ) (maximum : ℕ) (lon
         (
           ap (λ st. taken_at m st p maximum) at.stage
               ∙ ap (λ v. Some (cond v (data_over next c (left - length (take left p))) next)) on,
-          record { disk_is = kept; got = at.got; stage = ap (Taking c) fewer },
+          record { disk_is = at.disk_is; got = dropped; stage = ap (Taking c) fewer },
         ),
       )
 
@@ -113,8 +108,8 @@ module _ (disk : List ℕ) (c : Command) (bytes : List ℕ) (maximum : ℕ) (lon
       let over : (nat_le left (length p) || nat_lt (length p) maximum) ≡ true = rw (le-leb left (length p) (omega (arith, all))) refl in
       ap (λ st. taken_at m st p maximum) at.stage
       ∙ ap (λ v. Some (cond v (data_over next c (left - length (take left p))) next)) over
-      ∙ ap (λ (d : List ℕ). Some (made d m.got (Answering (status_for d c (left - length (take left p))) 0))) kept
-      ∙ ap (λ (g : List ℕ). Some (made disk g (Answering (status_for disk c (left - length (take left p))) 0))) at.got
+      ∙ ap (λ v. Some (made (cond v m.disk (overwritten m.disk (512 * c.block) next.got)) [] (Answering (status_for m.disk c (left - length (take left p))) 0))) passes
+      ∙ ap (λ (d : List ℕ). Some (made d [] (Answering (status_for d c (left - length (take left p))) 0))) at.disk_is
       ∙ ap (λ (st : Status). Some (made disk [] (Answering st 0))) (status_for-failed disk c (left - length (take left p)) beyond)
 
 pub drops-first : (disk : List ℕ) (c : Command) → Drops disk c 0 (made disk [] (Taking c (data_length c)))

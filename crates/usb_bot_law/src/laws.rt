@@ -1,5 +1,6 @@
 //! Laws of disks and their clients. Each is the contract of a function that does nothing.
 
+ghost use Rattle.usb_bot_law.specs.Gathering.{WritesAreGathered};
 ghost use Rattle.usb_bot_law.specs.DiskLaws.{NewDiskServes, ReadsAnswerBlocks, WritesChangeBlocks, BrokenClientsReadNothing, BrokenClientsWriteNothing, DiskIsList};
 
 /// A new bus with a disk serves a new client.
@@ -23,4 +24,11 @@ pub fn calls_are_of_blocks()
 #[tactic(auto, using(crate::proofs::LawLemmas::disk_is_list))]
 pub fn disk_is_list()
     ensures list { DiskIsList }
+{}
+
+/// A write changes no block before its data have ended: over each turn after which the disk still
+/// waits for a packet its blocks stay.
+#[tactic(auto, using(crate::proofs::GatheringLemmas::writes_are_gathered))]
+pub fn writes_are_gathered()
+    ensures law { WritesAreGathered }
 {}

@@ -4,4 +4,4 @@
 
 mod laws;
 
-pub use laws::{calls_are_of_blocks, disk_is_list, new_disk_serves};
+pub use laws::{calls_are_of_blocks, disk_is_list, new_disk_serves, writes_are_gathered};

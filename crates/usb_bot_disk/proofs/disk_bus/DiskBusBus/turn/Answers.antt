@@ -15,7 +15,7 @@ returns-then-act-clause-falls c =
     let has : HasActed c.args.self.now c.act.new.self = record { is = c.act.ensures.bus; acts = sym c.if-act.true ∙ c.act.ensures.acts } in
     let count : length (tickets c.act.new.self.host.kernel.past) ≡ c.tickets-count.result =
     ap (λ (x : DiskState). length (tickets x.host.kernel.past)) (sym c.self.view_is) ∙ sym c.tickets-count.ensures.number in
-    acted-less c.args.self.now c.act.new.self has c.act.ensures.before c.act.ensures.short c.if-act.ensures.after (omega (arith, count, c.tickets-count.type_inv))
+    acted-less c.args.self.now c.act.new.self has c.act.ensures.before c.act.ensures.came c.if-act.ensures.after (omega (arith, count, c.tickets-count.type_inv))
 
 pub returns-then-act-clause-turn : goal.returns-then-act-clause-turn
 returns-then-act-clause-turn c =
