@@ -1,6 +1,7 @@
 -- The journal stays bounded over discards, reaps, steps and submissions.
 use Rattle.std.proofs.Common.{ℕ, ◌≤◌, Bool, true, false, List, [], ◌∷◌, length, Option, Some, None}
 use Rattle.std.specs.Prelude.{◌&&◌, nat_le, nat_lt, is_some, if◌then◌else◌}
+use Rattle.std.proofs.lemmas.Bool.{cond_both, leb-true, leb-false}
 use Rattle.usb_xfer.specs.BufferState.{BufferState}
 use Rattle.usb_kernel_devices.specs.declared.devices.DeviceState.{DeviceState}
 use Rattle.usb_kernel_devices.specs.declared.step.KernelStep.{KernelStep}
@@ -17,6 +18,7 @@ use Rattle.usb_kernel.specs.Submissions.{body_of}
 use Rattle.usb_kernel.specs.Submits.{submit_or_refuse}
 use Rattle.usb_kernel.specs.Timers.{due, discarded_in_order, timer_turned}
 use Rattle.usb_kernel_devices.specs.Devices.{plugged_device}
+use Rattle.usb_trace_lines.specs.Directions.{IsBodyDirected}
 use Rattle.usb_trace_lines.specs.Forms.{IsBodySized}
 use Rattle.usb_session_sizes.specs.Bounds.{IsBounded, AreBounded}
 
@@ -68,7 +70,13 @@ pub record IsBufferSized (b : BufferState) : Type 0 where
 body-sized : (endpoint : ℕ) (b : BufferState) → IsBufferSized b → IsBodySized (body_of endpoint b)
 body-sized endpoint b is = elim (nat_le 128 endpoint) as (λ v. IsBodySized (if v then Wanted b.requested else Sent b.bytes)) [ true ↦ is.requested | false ↦ is.bytes ]
 
+-- an address tells whether bytes are wanted or sent
+body-directed : (endpoint : ℕ) (b : BufferState) → IsBodyDirected endpoint (body_of endpoint b)
+body-directed endpoint b =
+    cond_both (nat_le 128 endpoint) (Wanted b.requested) (Sent b.bytes) (IsBodyDirected endpoint)
+    (λ yes_. leb-true 128 endpoint yes_) (λ no_. leb-false 128 endpoint no_)
+
 -- a submission, refused or not
 pub submission-bounded : (t : ℕ) (s : Submission) (o : Option ℕ) → s.maximum ≤ 65536 → IsBufferSized s.buffer → IsBounded (submit_or_refuse t s o)
-submission-bounded t s None maximum is = (maximum, body-sized s.endpoint s.buffer is)
-submission-bounded t s (Some errno) maximum is = (maximum, body-sized s.endpoint s.buffer is)
+submission-bounded t s None maximum is = (maximum, body-sized s.endpoint s.buffer is, body-directed s.endpoint s.buffer)
+submission-bounded t s (Some errno) maximum is = (maximum, body-sized s.endpoint s.buffer is, body-directed s.endpoint s.buffer)

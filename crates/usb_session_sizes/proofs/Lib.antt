@@ -1,6 +1,7 @@
 pub mod CallSizes
 pub mod Clients
 pub mod Controls
+pub mod Directed
 pub mod Endpoints
 pub mod Fits
 pub mod Handles

@@ -11,7 +11,7 @@ use Rattle.usb_session_sizes.specs.Bounds.{IsBounded, AreBounded}
 use Rattle.usb_session_sizes.specs.Scripts.{BoundedJournalsAreSized}
 
 event-sized : (event : Event) → IsBounded event → IsLegal event → IsSized event
-event-sized (Submit t d e m body room deadline) is legal = is
+event-sized (Submit t d e m body room deadline) is legal = (is.0, is.1)
 event-sized (Refuse t d e m body room errno) is legal = (is.0, (is.1, legal))
 event-sized (Packet d e bytes) is legal = is
 event-sized (Ack d e) is legal = tt
