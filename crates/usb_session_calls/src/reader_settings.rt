@@ -5,7 +5,10 @@ ghost use Rattle.std.specs.Prelude.{◌≡◌, ◌≤◌, ◌-◌, ◌||◌, tru
 ghost use Rattle.usb_device_endpoint.specs.Handles.{Stands};
 ghost use Rattle.usb_device_host.specs.HostState.{HostState};
 ghost use Rattle.usb_device_host.specs.HostBus.{bus_of};
+ghost use Rattle.usb_device_host.specs.HostCalls.{host_calls};
+ghost use Rattle.usb_io.specs.Along.{ReadsAlong};
 ghost use Rattle.usb_io.specs.Readers.{with_read, without_end, is_end};
+ghost use Rattle.usb_io.specs.Reads.{reading, filled_to, FilledShort};
 ghost use Rattle.usb_session_streams.specs.Reads.{is_end_line};
 ghost use Rattle.usb_session_streams.specs.Needs.{bars_need};
 ghost use Rattle.usb_session_calls.specs.Readers.{num_on, timeout_on, cancel_reader_on};
@@ -24,14 +27,32 @@ use usb_xfer::Any;
 
 /// Whether a number of transfers can't be set: it is too large, or the submissions that are missing
 /// of one less are barred.
-fn bars_count(host: &Host, reader: &EndpointRead<Any>, count: usize) -> bool
+fn bars_count(host: &Host, reader: &EndpointRead<Any>, count: u32) -> bool
     ensures barred { result ≡ (nat_lt 64 count || bars_need host.now.kernel.past
         (length reader.now.endpoint.pending)
         (count - 1 - length reader.now.endpoint.pending)) }
 {
+    let count = count as usize;
     let pending = reader.pending();
     let need = count.saturating_sub(1).saturating_sub(pending);
     count > MOST_PENDING || bars_need(host, pending, need)
+}
+
+/// Sets a number of transfers, and submits until one less is pending.
+fn set_count(reader: &mut EndpointRead<Any>, host: &mut Host, count: u32) -> Result<(), NoMemory>
+    requires few { count ≤ 64 }
+    requires stands { Stands (bus_of host.old) reader.old.endpoint }
+    ensures ok { OnOk result
+        (reading host.new reader.new
+        ≡ filled_to host_calls
+        (count - 1) (reading host.old (record reader.old { n = count }))) }
+    ensures err { OnErr result
+        (FilledShort host_calls (count - 1)
+        (reading host.old (record reader.old { n = count })) (reading host.new reader.new)) }
+    ensures goes { ReadsAlong (bus_of host.old) (bus_of host.new) reader.old.endpoint
+        reader.new.endpoint }
+{
+    reader.set_num_transfers(host, count as usize)
 }
 
 /// Sets how many transfers of a reader that is open are to be pending.
@@ -48,11 +69,10 @@ pub(crate) fn num_open(
         reader.new line.old line.new result
         (λ state r at. num_on state r count at) }
 {
-    let count = count as usize;
     if bars_count(host, reader, count) {
         return write_condition(line);
     }
-    reader.set_num_transfers(host, count)?;
+    set_count(reader, host, count)?;
     write_ok(line)
 }
 

@@ -1,6 +1,6 @@
 //! `read`, `sread`, `pollread` and `pollsread`: bytes are read from a reader.
 
-ghost use Rattle.std.specs.Prelude.{◌≡◌, ◌≤◌, take, length, Ok, IfOk, IfErr};
+ghost use Rattle.std.specs.Prelude.{◌≡◌, ◌≤◌, true, take, length, Ok, IfOk, IfErr};
 ghost use Rattle.usb_device_endpoint.specs.Handles.{Stands};
 ghost use Rattle.usb_device_host.specs.HostBus.{bus_of};
 ghost use Rattle.usb_device_host.specs.HostCalls.{host_calls};
@@ -43,6 +43,27 @@ pub fn bars_read(host: &Host, framing: Framing, reader: &EndpointRead<Any>) -> b
     bars_need(host, reader.pending(), need)
 }
 
+/// Reads as many bytes as fit, up to the end of a message.
+fn read_message(
+    reader: &mut EndpointRead<Any>,
+    host: &mut Host,
+    dest: &mut [u8],
+) -> Result<usize, Fail<ReadFault>>
+    requires stands { Stands (bus_of host.old) reader.old.endpoint }
+    ensures few { IfOk result (λ n. n ≤ length dest.old) }
+    ensures read { IfOk result
+        (λ n. read_came host_calls true reader.old.timeout (length dest.old)
+        (reading host.old reader.old)
+        ≡ answered (Ok (take n dest.new)) (reading host.new reader.new)) }
+    ensures failed { IfErr result
+        (ReadFails host_calls true reader.old.timeout (length dest.old)
+        (reading host.old reader.old) (reading host.new reader.new)) }
+    ensures goes { ReadsAlong (bus_of host.old) (bus_of host.new) reader.old.endpoint
+        reader.new.endpoint }
+{
+    reader.until_short_packet().read(host, dest)
+}
+
 /// Reads as many bytes as fit, by the call of this framing.
 fn read_bytes(
     reader: &mut EndpointRead<Any>,
@@ -66,7 +87,7 @@ fn read_bytes(
 {
     match framing {
         Framing::Plain => reader.read(host, dest),
-        Framing::UntilShort => reader.until_short_packet().read(host, dest),
+        Framing::UntilShort => read_message(reader, host, dest),
     }
 }
 

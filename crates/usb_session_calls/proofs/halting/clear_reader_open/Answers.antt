@@ -8,13 +8,13 @@ use Rattle.usb_session_calls.proofs.halting.clear_reader_open.Goals as goal
 pub returns-clause-keeps : goal.returns-clause-keeps
 returns-clause-keeps c =
     let old = reading c.args.host.now c.args.reader.now in
-    let new = reading c.clear_halt.new.bus c.clear_halt.new.self in
-    let on = halt-goes c.clear_halt.result old new c.clear_halt.ensures.result c.clear_halt.ensures.bus c.clear_halt.ensures.ok c.clear_halt.ensures.err in
+    let new = reading c.clear_of.new.host c.clear_of.new.reader in
+    let on = halt-goes c.clear_of.result old new c.clear_of.ensures.result c.clear_of.ensures.host c.clear_of.ensures.ok c.clear_of.ensures.err in
     record {
       line = on.line;
       past = on.past;
-      stands = c.clear_halt.ensures.stands;
-      others = c.clear_halt.ensures.others;
+      stands = c.clear_of.ensures.stands;
+      others = c.clear_of.ensures.others;
       key = ap (λ (h : EndpointState). h.key) on.endpoint;
       maximum = ap (λ (h : EndpointState). h.maximum) on.endpoint;
       accounts = on.accounts c.requires.stands.key_is_open;
@@ -23,7 +23,8 @@ returns-clause-keeps c =
 pub returns-clause-answered : goal.returns-clause-answered
 returns-clause-answered c =
     let old = reading c.args.host.now c.args.reader.now in
-    let new = reading c.clear_halt.new.bus c.clear_halt.new.self in
-    reader-halt-made c.args.host.now c.clear_halt.new.bus c.args.reader.now c.clear_halt.new.self c.args.line.now c.write_result.new.out c.write_result.result
-    (halt-came c.clear_halt.result old new c.clear_halt.ensures.result c.clear_halt.ensures.bus c.clear_halt.ensures.ok c.clear_halt.ensures.err)
-    (rw (← c.clear_halt.ensures.result) c.write_result.ensures.text)
+    let new = reading c.clear_of.new.host c.clear_of.new.reader in
+    reader-halt-made c.args.host.now c.clear_of.new.host c.args.reader.now c.clear_of.new.reader c.args.line.now
+    c.write_result.new.out c.write_result.result
+    (halt-came c.clear_of.result old new c.clear_of.ensures.result c.clear_of.ensures.host c.clear_of.ensures.ok c.clear_of.ensures.err)
+    (rw (← c.clear_of.ensures.result) c.write_result.ensures.text)

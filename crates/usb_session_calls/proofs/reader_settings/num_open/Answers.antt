@@ -9,22 +9,25 @@ returns-then-bars_count-clause-answered c =
     num-barred c.args.host.now c.args.reader.now c.args.count c.args.line.now c.write_condition.new.out c.write_condition.result
     (sym c.bars_count.ensures.barred ∙ c.if-bars_count.true) c.write_condition.ensures.text
 
-pub set_num_transfers-requires-clause-few : goal.set_num_transfers-requires-clause-few
-set_num_transfers-requires-clause-few c = few-count _ _ (sym c.bars_count.ensures.barred ∙ c.if-bars_count.false)
+pub set_count-requires-clause-few : goal.set_count-requires-clause-few
+set_count-requires-clause-few c = few-count _ _ (sym c.bars_count.ensures.barred ∙ c.if-bars_count.false)
 
-pub returns-in_err-set_num_transfers-clause-keeps : goal.returns-in_err-set_num_transfers-clause-keeps
-returns-in_err-set_num_transfers-clause-keeps c =
+pub returns-in_err-set_count-clause-keeps : goal.returns-in_err-set_count-clause-keeps
+returns-in_err-set_count-clause-keeps c =
     keeps-along _ _
-    (num-goes c.set_num_transfers.result (c.args.count - 1) (reading c.args.host.now (record c.args.reader.now { n = c.args.count })) (reading c.set_num_transfers.new.bus c.set_num_transfers.new.self) c.set_num_transfers.ensures.ok c.set_num_transfers.ensures.err)
-    c.set_num_transfers.ensures.goes c.requires.stands
+    (num-goes c.set_count.result (c.args.count - 1) (reading c.args.host.now (record c.args.reader.now { n = c.args.count }))
+    (reading c.set_count.new.host c.set_count.new.reader) c.set_count.ensures.ok c.set_count.ensures.err)
+    c.set_count.ensures.goes c.requires.stands
 
 pub returns-clause-keeps : goal.returns-clause-keeps
 returns-clause-keeps c =
     keeps-along _ _
-    (num-goes c.set_num_transfers.result (c.args.count - 1) (reading c.args.host.now (record c.args.reader.now { n = c.args.count })) (reading c.set_num_transfers.new.bus c.set_num_transfers.new.self) c.set_num_transfers.ensures.ok c.set_num_transfers.ensures.err)
-    c.set_num_transfers.ensures.goes c.requires.stands
+    (num-goes c.set_count.result (c.args.count - 1) (reading c.args.host.now (record c.args.reader.now { n = c.args.count }))
+    (reading c.set_count.new.host c.set_count.new.reader) c.set_count.ensures.ok c.set_count.ensures.err)
+    c.set_count.ensures.goes c.requires.stands
 
 pub returns-clause-answered : goal.returns-clause-answered
 returns-clause-answered c =
-    num-made c.args.host.now c.set_num_transfers.new.bus c.args.reader.now c.set_num_transfers.new.self c.args.count c.args.line.now c.write_ok.new.out c.write_ok.result
+    num-made c.args.host.now c.set_count.new.host c.args.reader.now c.set_count.new.reader c.args.count c.args.line.now
+    c.write_ok.new.out c.write_ok.result
     (sym c.bars_count.ensures.barred ∙ c.if-bars_count.false) (search rules) c.write_ok.ensures.text

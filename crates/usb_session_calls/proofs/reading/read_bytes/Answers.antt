@@ -1,6 +1,5 @@
-use Rattle.std.proofs.Common.{rules, true, false, length, take}
+use Rattle.std.proofs.Common.{true, false, length, take}
 use Rattle.usb_io.specs.Reads.{reading}
-use Rattle.usb_session_streams.specs.ReaderCalls.{ReaderGoesOn}
 use Rattle.usb_session_streams.proofs.ReadsGoOn.{read-goes}
 use Rattle.usb_session_calls.proofs.reading.read_bytes.Goals as goal
 
@@ -11,7 +10,6 @@ returns-in-Plain-clause-goes_on c =
 
 pub returns-in-UntilShort-clause-goes_on : goal.returns-in-UntilShort-clause-goes_on
 returns-in-UntilShort-clause-goes_on c =
-    let on : ReaderGoesOn (reading c.args.host.now c.until_short_packet.result.reader.now) (reading c.read-in-UntilShort.new.bus c.read-in-UntilShort.new.self.reader.now) =
-    read-goes true (reading c.args.host.now c.until_short_packet.result.reader.now) (reading c.read-in-UntilShort.new.bus c.read-in-UntilShort.new.self.reader.now) c.until_short_packet.result.reader.now.timeout (length c.args.dest.now) (λ n. take n c.read-in-UntilShort.new.dest) c.read-in-UntilShort.result
-    c.read-in-UntilShort.ensures.read c.read-in-UntilShort.ensures.failed in
-    search rules
+    read-goes true (reading c.args.host.now c.args.reader.now) (reading c.read_message.new.host c.read_message.new.reader)
+    c.args.reader.now.timeout (length c.args.dest.now) (λ n. take n c.read_message.new.dest) c.read_message.result
+    c.read_message.ensures.read c.read_message.ensures.failed
