@@ -26,13 +26,21 @@ pub enum Verdict {
     No { line: u32 },
 }
 
+/// Whether a fate line tells this fate.
+fn is_fate(told: FateLine, fate: FateLine) -> bool
+    ensures same { IsTrue result → told ≡ fate }
+    ensures other { result ≡ false → told ≢ fate }
+{
+    told == fate
+}
+
 /// Whether this fate stands at a place.
 fn is_at(fates: &[FateLine], place: usize, fate: FateLine) -> bool
     ensures at { IsTrue result → slice_get fates.now place ≡ Some fate }
     ensures other { result ≡ false → slice_get fates.now place ≢ Some fate }
 {
     match fates.get(place) {
-        Some(told) => *told == fate,
+        Some(told) => is_fate(*told, fate),
         None => false,
     }
 }
