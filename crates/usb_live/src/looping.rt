@@ -7,10 +7,11 @@ use crate::gates::Gate;
 use crate::locked::LiveKernel;
 use crate::seats::HandlerSeat;
 use std::sync::Wait;
+use std::thread::yield_now;
 use usb_xfer::Notify;
 
-/// Makes rounds until the gate answers false, each under the lock, and wakes those that wait after each. Hands the seat back, and a
-/// tally that counts what the rounds reclaimed.
+/// Makes rounds until the gate answers false, each under the lock. Where a round finished a transfer, those that wait are woken, and
+/// else another thread may go first. Hands the seat back, and a tally that counts what the rounds reclaimed.
 pub fn event_loop<R: Wait, G: Gate>(
     rt: &R,
     kernel: &LiveKernel,
@@ -29,7 +30,11 @@ pub fn event_loop<R: Wait, G: Gate>(
         }
         let round = handler.round(&mut *kernel.lock(rt));
         tally.reclaimed = tally.reclaimed.saturating_add(round.reclaimed);
-        notify.notify(rt);
+        if round.finished > 0 {
+            notify.notify(rt);
+        } else {
+            yield_now();
+        }
     }
     unreachable!()
 }

@@ -7,3 +7,9 @@ rounds-preserved g c = let so_far = c.rounds.invariant in let round = c.round-ro
   row = round.row ∙ so_far.row;
   count = counts_more _ _ _ _ _ _ c.round-round.result.reclaimed so_far.count round.count (ap (λ (n : ℕ). record c.rounds.tally { reclaimed = n }) c.saturating_add.ensures);
 }
+
+pub rounds-preserved-then-round-gt0 : goal.rounds-preserved-then-round-gt0
+rounds-preserved-then-round-gt0 g c = let so_far = c.rounds.invariant in let round = c.round-round.ensures in record {
+  row = round.row ∙ so_far.row;
+  count = counts_more _ _ _ _ _ _ c.round-round.result.reclaimed so_far.count round.count (ap (λ (n : ℕ). record c.rounds.tally { reclaimed = n }) c.saturating_add.ensures);
+}
