@@ -1,6 +1,6 @@
 //! A sink of lines that fails from a line on.
 
-ghost use Rattle.std.specs.Prelude.{◌≡◌, [], IfOk};
+ghost use Rattle.std.specs.Prelude.{◌≡◌, ◌<◌, [], IfOk};
 
 use std::alloc::Global;
 use std::marker::Model;
@@ -22,7 +22,8 @@ impl Model for TextSink {
 
     ghost Value = { LinesState };
 
-    ghost view = { λ sink. record { written = None; begun = sink.line.items; faults = sink.faults } };
+    ghost view = { λ sink.
+        record { written = None; begun = sink.line.items; faults = sink.faults; outlet = 0 } };
 
     ghost invariant = { λ sink. 140000 ≤ vec_capacity sink.line };
 }
@@ -63,6 +64,8 @@ impl TextSink {
 
 impl Lines for TextSink {
     ghost state = { λ sink. sink };
+
+    ghost has_failed = { λ sink. 0 < sink.faults };
 
     fn put(&mut self, bytes: &[u8]) {
         let _ = self.line.extend_from_slice(bytes);

@@ -1,5 +1,5 @@
 -- Lines written one after another.
-use Rattle.std.proofs.Common.{◌≡◌, ℕ, ◌+◌, ◌<◌, suc, List, [], ◌++◌, length, get_or, drop, flat_map, Some, None, refl, sym, ap, ◌∙◌, append_assoc, drop-cons, arith}
+use Rattle.std.proofs.Common.{◌≡◌, ℕ, ◌+◌, ◌<◌, suc, List, [], ◌∷◌, ◌++◌, length, get_or, drop, flat_map, Some, None, refl, sym, ap, ◌∙◌, append_assoc, drop-cons, arith}
 use Rattle.std.specs.declared.option.Option.{Option}
 use Rattle.std.specs.Io.KnownBytes.{Appends}
 use Rattle.std.proofs.lemmas.List.{append-nil}
@@ -24,7 +24,7 @@ pub record Going (old now : LinesState) (whole left : List ℕ) : Type 0 where
 
 pub going-start : (s : LinesState) (whole : List ℕ) → s.begun ≡ [] → Going s s whole whole
 going-start s whole empty =
-    record { done = []; written = record { appended = Appends_none s.written; empty = empty; quiet = refl }; complete = refl }
+    record { done = []; written = record { appended = Appends_none s.written; empty = empty; quiet = refl; same = refl }; complete = refl }
 
 -- one piece more
 pub going-on : {old mid : LinesState} {whole left : List ℕ} (new : LinesState) (piece rest : List ℕ) → Going old mid whole left → HasWritten mid new piece → piece ++ rest ≡ left → Going old new whole rest
@@ -35,9 +35,14 @@ going-on {old = old} {mid = mid} new piece rest g w e =
         appended = Appends_more old.written mid.written new.written g.done piece g.written.appended w.appended;
         empty = w.empty;
         quiet = w.quiet ∙ g.written.quiet;
+        same = w.same ∙ g.written.same;
       };
       complete = append_assoc g.done piece rest ∙ ap (λ (x : List ℕ). g.done ++ x) e ∙ g.complete;
     }
+
+left-of-none : (xs ys : List ℕ) → xs ++ ys ≡ [] → xs ≡ []
+left-of-none [] ys e = refl
+left-of-none (x ∷ xs) ys e = cc
 
 -- a write failed within the next piece
 pub going-cut : {old mid : LinesState} {whole left : List ℕ} (new : LinesState) (piece rest : List ℕ) → Going old mid whole left → HasStopped mid new piece → piece ++ rest ≡ left → HasStopped old new whole
@@ -50,7 +55,9 @@ going-cut {old = old} {mid = mid} new piece rest g f e =
           append_assoc g.done f.done (f.left ++ rest)
           ∙ ap (λ (x : List ℕ). g.done ++ x) (sym (append_assoc f.done f.left rest) ∙ ap (λ (x : List ℕ). x ++ rest) f.complete ∙ e)
           ∙ g.complete;
+      part = λ none. f.part (left-of-none f.left rest none);
       rose = rw (← g.written.quiet) f.rose;
+      same = f.same ∙ g.written.same;
     }
 
 -- nothing is left

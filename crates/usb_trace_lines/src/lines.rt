@@ -23,8 +23,11 @@ pub const MAX_LINE: usize = 140_000;
 
 /// What takes lines, each piece by piece.
 pub trait Lines {
-    // What was written, what is begun, and how many writes failed.
+    // What was written, what is begun, how many writes failed, and where the lines go.
     ghost state: { Self → LinesState };
+
+    // A statement: the last write failed.
+    ghost has_failed: { Self → Type 0 };
 
     /// Appends bytes to the line that is begun, which is then no longer than [`MAX_LINE`].
     fn put(&mut self, bytes: &[u8])
@@ -36,5 +39,6 @@ pub trait Lines {
         ensures ok { OnOk result
             (HasWritten (state self.old) (state self.new) (ended_line (state self.old))) }
         ensures err { OnErr result
-            (HasStopped (state self.old) (state self.new) (ended_line (state self.old))) };
+            (HasStopped (state self.old) (state self.new) (ended_line (state self.old))) }
+        ensures failed { OnErr result (has_failed self.new) };
 }

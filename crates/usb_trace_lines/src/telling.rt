@@ -58,7 +58,9 @@ impl LineText {
 }
 
 impl Lines for LineText {
-    ghost state = { λ text. record { written = None; begun = text; faults = 0 } };
+    ghost state = { λ text. record { written = None; begun = text; faults = 0; outlet = 0 } };
+
+    ghost has_failed = { λ text. ⊥ };
 
     fn put(&mut self, bytes: &[u8]) {
         let _ = self.bytes.extend_from_slice(bytes);

@@ -174,6 +174,7 @@ fn write_event<K: Lines>(out: &mut K, event: &Event) -> Result<(), Failed>
         (HasWritten (K.state out.old) (K.state out.new) (event_text event.now)) }
     ensures err { OnErr result
         (HasStopped (K.state out.old) (K.state out.new) (event_text event.now)) }
+    ensures failed { OnErr result (K.has_failed out.new) }
 {
     put_event(out, event);
     out.line()
@@ -187,6 +188,7 @@ fn write_events<K: Lines>(out: &mut K, events: &[Event]) -> Result<(), Failed>
         (HasWritten (K.state out.old) (K.state out.new) (flat_map event_text events.now)) }
     ensures err { OnErr result
         (HasStopped (K.state out.old) (K.state out.new) (flat_map event_text events.now)) }
+    ensures failed { OnErr result (K.has_failed out.new) }
     ensures typed { OnOk result (All IsTyped events.now) }
 {
     for event in events {
@@ -248,6 +250,7 @@ fn write_fate<K: Lines>(out: &mut K, fate: FateLine) -> Result<(), Failed>
     requires empty { (K.state out.old).begun ≡ [] }
     ensures ok { OnOk result (HasWritten (K.state out.old) (K.state out.new) (fate_text fate)) }
     ensures err { OnErr result (HasStopped (K.state out.old) (K.state out.new) (fate_text fate)) }
+    ensures failed { OnErr result (K.has_failed out.new) }
 {
     put_fate(out, fate);
     out.line()
@@ -260,6 +263,7 @@ fn write_fates<K: Lines>(out: &mut K, kernel: &Kernel) -> Result<(), Failed>
         (flat_map fate_text (fates_of kernel.now.past))) }
     ensures err { OnErr result (HasStopped (K.state out.old) (K.state out.new)
         (flat_map fate_text (fates_of kernel.now.past))) }
+    ensures failed { OnErr result (K.has_failed out.new) }
 {
     for ticket in 0..kernel.tickets() {
         write_fate(out, FateLine::of(ticket, &kernel.ticket(ticket)))?;
@@ -275,6 +279,7 @@ fn write_line<K: Lines>(out: &mut K, bytes: &[u8]) -> Result<(), Failed>
         (HasWritten (K.state out.old) (K.state out.new) (bytes.now ++ 10 ∷ [])) }
     ensures err { OnErr result
         (HasStopped (K.state out.old) (K.state out.new) (bytes.now ++ 10 ∷ [])) }
+    ensures failed { OnErr result (K.has_failed out.new) }
 {
     out.put(bytes);
     out.line()
@@ -285,7 +290,8 @@ fn write_line<K: Lines>(out: &mut K, bytes: &[u8]) -> Result<(), Failed>
 ///
 /// The line that is begun must be empty. Of the journal every body must have or want at most 67,582
 /// bytes, every packet have at most 65,536, every maximum be at most 65,536, and every errno be from
-/// 1 to 4095. An `Err` comes only where a write failed, and then a prefix of the trace was written.
+/// 1 to 4095. An `Err` comes only where a write failed, and that was the last. Then a part of the
+/// trace was written, and not all.
 #[tactic(auto, unfolding(crate::specs::Texts::trace, crate::specs::Texts::trace_text))]
 pub fn write_trace<K: Lines>(kernel: &Kernel, out: &mut K) -> Result<(), Failed>
     requires empty { (K.state out.old).begun ≡ [] }
@@ -294,6 +300,7 @@ pub fn write_trace<K: Lines>(kernel: &Kernel, out: &mut K) -> Result<(), Failed>
         (HasWritten (K.state out.old) (K.state out.new) (trace kernel.now.past)) }
     ensures err { OnErr result
         (HasStopped (K.state out.old) (K.state out.new) (trace kernel.now.past)) }
+    ensures failed { OnErr result (K.has_failed out.new) }
     ensures typed { OnOk result (All IsTyped kernel.now.past) }
 {
     write_line(out, b"nusb-trace 1")?;
