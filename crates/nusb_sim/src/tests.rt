@@ -10,11 +10,13 @@ mod devices;
 mod endpoints;
 mod enumeration;
 mod halts;
+mod limits;
 mod lines;
 mod live;
 mod readers;
 mod steps;
 mod stops;
+mod traces;
 mod writers;
 
 use std::alloc::{AllocError, Global};
@@ -319,9 +321,10 @@ fn tells_why_nothing_was_answered(rt: HostRuntime) -> Result<(), Fail> {
     let wanted = (
         2,
         "",
-        "usage: nusb_sim [session|generate N|live N|disk N|check]\n",
+        "usage: nusb_sim [session|generate N|live N|disk N|trace|check]\n",
     );
-    expect_run(&rt, rt.alloc(), "an unknown word", &["--help"], b"", wanted)
+    expect_run(&rt, rt.alloc(), "an unknown word", &["--help"], b"", wanted)?;
+    expect_run(&rt, rt.alloc(), "another one", &["--version"], b"", wanted)
 }
 
 /// A script of 1,048,576 bytes is answered so, and with one byte more it is too long.

@@ -6,4 +6,5 @@ pub mod MemoryLemmas
 pub mod OutsideLemmas
 pub mod RunLemmas
 pub mod SessionLemmas
+pub mod TraceLemmas
 pub mod StopLemmas

@@ -7,7 +7,6 @@ use Rattle.std.proofs.lemmas.List.Sums.{sum_by-cons}
 use Rattle.usb_script_lines.specs.declared.item.Item.{Item}
 use Rattle.usb_script_lines.specs.ItemKinds.{is_call}
 use Rattle.usb_device_host.specs.HostState.{HostState}
-use Rattle.usb_device_host.specs.Finishes.{HasEnds, KeepsNothing}
 use Rattle.usb_session_calls.specs.SessionState.{SessionState}
 use Rattle.usb_session.specs.declared.summary.Summary.{Summary}
 use Rattle.usb_kernel.specs.Tickets.{tickets}

@@ -1,5 +1,5 @@
 -- Why a session fails.
-use Rattle.std.proofs.Common.{IfOk, IfErr, IsErrOf, ◌≡◌, count_by, ℕ, ◌+◌, ◌<◌, ◌≤◌, List, length, Ok, Err, Some, None, ap, sym, ◌∙◌, refl, arith, length-append, ◌⊎◌, inl, inr, Result, ltb, false}
+use Rattle.std.proofs.Common.{IfOk, IfErr, OnOk, IsErrOf, ◌≡◌, count_by, ℕ, ◌+◌, ◌<◌, ◌≤◌, List, length, Ok, Err, Some, None, ap, sym, ◌∙◌, refl, arith, length-append, ◌⊎◌, inl, inr, Result, ltb, false}
 use Rattle.std.specs.declared.option.Option.{Option}
 use Rattle.std.specs.Io.KnownBytes.{Consumes, Keeps}
 use Rattle.std.proofs.lemmas.Bool.Decides.{nat_tests}
@@ -8,12 +8,13 @@ use Rattle.usb_script.specs.declared.error.SessionError.{SessionError}
 use Rattle.usb_script.specs.declared.error.SessionError.TheVariants.{Malformed, TooLong, ReadFault, WriteFault, Memory}
 use Rattle.usb_script.specs.Parse.{script_of, parse, or_malformed}
 use Rattle.usb_script.specs.Outcome.{OrMemory}
-use Rattle.usb_session_run.specs.Causes.{ReadWhole, TookAtMost, EndsReading}
+use Rattle.usb_session_run.specs.Causes.{Rose, ReadWhole, TookAtMost, TookTooMany, EndsReading}
 use Rattle.usb_script_lines.specs.ItemKinds.{is_call}
 use Rattle.usb_session.specs.declared.summary.Summary.{Summary}
 use Rattle.usb_session.specs.Output.{final_host}
 use Rattle.usb_session.proofs.SumLemmas.{one_end_each}
 use Rattle.usb_session_run.specs.Session.{Streams, ReadAs, IsAnswered, HasReason, IsSmooth, IsQuiet, IsExact, GaveTooMany, AnswersBytes}
+use Rattle.usb_session_run.specs.Traces.{IsTraced, IsUntraced}
 use Rattle.usb_session_run.specs.Program.{status_of, error_status}
 use Rattle.usb_session_run.proofs.OutsideLemmas.{ReadWhole-known}
 
@@ -57,7 +58,7 @@ only_malformed : (r : Result (List Item) ℕ) (e : SessionError) → or_malforme
 only_malformed (Ok items) e same = cc
 only_malformed (Err line) e same = (line, cc)
 
-small_is_malformed : (bytes : List ℕ) (e : SessionError) → length bytes < 1048577 → script_of bytes ≡ Err e → (line : ℕ) × (e ≡ Malformed line)
+pub small_is_malformed : (bytes : List ℕ) (e : SessionError) → length bytes < 1048577 → script_of bytes ≡ Err e → (line : ℕ) × (e ≡ Malformed line)
 unfolding script_of
 small_is_malformed bytes e few same =
     let small : ltb 1048576 (length bytes) ≡ false = grind (arith, nat_tests) in
@@ -72,34 +73,58 @@ parsing_reason old new WriteFault bytes read few parsed kept = let m = small_is_
 parsing_reason old new Memory bytes read few parsed kept = inl kept
 
 -- and the source has ended
-pub parsing_ends : (ended : Type 0) (bytes : List ℕ) (e : SessionError) → ended → length bytes < 1048577 → OrMemory {X = List Item} (Err e) (script_of bytes) → EndsReading {X = Summary} ended (Err e)
-parsing_ends ended bytes (Malformed line) has few parsed = has
-parsing_ends ended bytes TooLong has few parsed = let m = small_is_malformed bytes TooLong few parsed in let e = m.1 in cc
-parsing_ends ended bytes ReadFault has few parsed = let m = small_is_malformed bytes ReadFault few parsed in let e = m.1 in cc
-parsing_ends ended bytes WriteFault has few parsed = has
-parsing_ends ended bytes Memory has few parsed = tt
+pub parsing_ends : (X : Type 0) (ended : Type 0) (bytes : List ℕ) (e : SessionError) → ended → length bytes < 1048577 → OrMemory {X = List Item} (Err e) (script_of bytes) → EndsReading {X = X} ended (Err e)
+parsing_ends X ended bytes (Malformed line) has few parsed = has
+parsing_ends X ended bytes TooLong has few parsed = let m = small_is_malformed bytes TooLong few parsed in let e = m.1 in cc
+parsing_ends X ended bytes ReadFault has few parsed = let m = small_is_malformed bytes ReadFault few parsed in let e = m.1 in cc
+parsing_ends X ended bytes WriteFault has few parsed = has
+parsing_ends X ended bytes Memory has few parsed = tt
 
 -- each ticket of an answered script has one end
 pub answered-ends : (old new : Streams) (summary : Summary) → IsAnswered old new summary → summary.taken + summary.dropped + summary.reclaimed ≡ summary.tickets
 answered-ends old new summary answered =
     rw answered.summed (one_end_each (count_by is_call answered.items) (final_host answered.items) answered.ended)
 
--- where nothing fails, the only errors are the parse's and want of memory
-parse_alone : (old new : Streams) (bytes : List ℕ) (e : SessionError) → HasReason old new e → IsQuiet old new bytes → (e ≡ Memory) ⊎ (script_of bytes ≡ Err e)
-parse_alone old new bytes (Malformed line) reason quiet =
-    inr (ap script_of (whole_of_known old.left new.left bytes reason.0.bytes quiet.known reason.0.read) ∙ reason.0.parsed)
-parse_alone old new bytes TooLong reason quiet =
-    let less = took_of_known old.left new.left bytes reason.0.bytes quiet.known reason.0.taken in
-    let count = reason.0.count in
-    inr (long_is_refused bytes (omega arith))
-parse_alone old new bytes ReadFault reason quiet = absurd (quiet.reads reason.0)
-parse_alone old new bytes WriteFault reason quiet = absurd (quiet.writes reason.0)
-parse_alone old new bytes Memory reason quiet = inl refl
+-- what a run that reads a script and gave this answer tells of the source
+abbrev pub HasRead : {X : Type 0} → Streams → Streams → Result X SessionError → Type 0
+HasRead old new (Ok x) = (items : List Item) × ReadAs old new (Ok items)
+HasRead old new (Err (Malformed line)) = ReadAs old new (Err (Malformed line))
+HasRead old new (Err TooLong) = TookTooMany 1048576 old.left new.left
+HasRead old new (Err ReadFault) = Rose old.read_faults new.read_faults
+HasRead old new (Err WriteFault) = Rose old.write_faults new.write_faults × ((items : List Item) × ReadAs old new (Ok items))
+HasRead old new (Err Memory) = Unit {0}
 
-pub exact_of : (old new : Streams) (bytes : List ℕ) (r : Result Summary SessionError) → IfOk r (IsAnswered old new) → IfErr r (HasReason old new) → IsQuiet old new bytes → IsExact bytes r
-exact_of old new bytes (Ok summary) ok err quiet =
-    (ok.items, ap script_of (whole_of_known old.left new.left bytes ok.script.bytes quiet.known ok.script.read) ∙ ok.script.parsed)
-exact_of old new bytes (Err e) ok err quiet = parse_alone old new bytes e err quiet
+pub session-read : (old new : Streams) (r : Result Summary SessionError) → IfOk r (IsAnswered old new) → IfErr r (HasReason old new) → HasRead old new r
+session-read old new (Ok summary) ok err = (ok.items, ok.script)
+session-read old new (Err (Malformed line)) ok err = err.0
+session-read old new (Err TooLong) ok err = err.0
+session-read old new (Err ReadFault) ok err = err.0
+session-read old new (Err WriteFault) ok err = (err.0, (err.1.items, err.1.script))
+session-read old new (Err Memory) ok err = tt
+
+pub trace-read : (old new : Streams) (r : Result (Unit {0}) SessionError) → OnOk r (IsTraced old new) → IfErr r (IsUntraced old new) → HasRead old new r
+trace-read old new (Ok done) ok err = (ok.items, ok.script)
+trace-read old new (Err (Malformed line)) ok err = err.0
+trace-read old new (Err TooLong) ok err = err.0
+trace-read old new (Err ReadFault) ok err = err.0
+trace-read old new (Err WriteFault) ok err = (err.0, (err.1.items, err.1.script))
+trace-read old new (Err Memory) ok err = tt
+
+-- what was read to its end is what a source that told its bytes told
+parsed-known : (old new : Streams) (bytes : List ℕ) (items : Result (List Item) SessionError) → ReadAs old new items → old.left ≡ Some bytes → script_of bytes ≡ items
+parsed-known old new bytes items read known = ap script_of (whole_of_known old.left new.left bytes read.bytes known read.read) ∙ read.parsed
+
+-- where nothing fails, the only errors are the parse's and want of memory
+pub exact_of : {X : Type 0} (old new : Streams) (bytes : List ℕ) (r : Result X SessionError) → HasRead old new r → IsQuiet old new bytes → IsExact bytes r
+exact_of old new bytes (Ok x) read quiet = (read.0, parsed-known old new bytes (Ok read.0) read.1 quiet.known)
+exact_of old new bytes (Err (Malformed line)) read quiet = inr (parsed-known old new bytes (Err (Malformed line)) read quiet.known)
+exact_of old new bytes (Err TooLong) read quiet =
+    let less = took_of_known old.left new.left bytes read.bytes quiet.known read.taken in
+    let count = read.count in
+    inr (long_is_refused bytes (omega arith))
+exact_of old new bytes (Err ReadFault) read quiet = absurd (quiet.reads read)
+exact_of old new bytes (Err WriteFault) read quiet = absurd (quiet.writes read.0)
+exact_of old new bytes (Err Memory) read quiet = inl refl
 
 -- the status is then what the bytes parse to, or that of want of memory
 pub exact_status : {X : Type 0} (bytes : List ℕ) (r : Result X SessionError) → IsExact bytes r → (status_of r ≡ 7) ⊎ (status_of r ≡ status_of (script_of bytes))
@@ -129,25 +154,22 @@ never_spared old new took gave =
     let most = took.count in omega arith
 
 -- the byte past the longest script was taken: the script is too long, or memory was lacking
-pub too_many_of : (old new : Streams) (r : Result Summary SessionError) → IfOk r (IsAnswered old new) → IfErr r (HasReason old new) → (IsErrOf r ReadFault → TookAtMost 1048576 old.left new.left) → GaveTooMany 1048576 old new → (r ≡ Err TooLong) ⊎ (r ≡ Err Memory)
-too_many_of old new (Ok summary) ok err spares gave = absurd (never_full old new (Ok ok.items) ok.script (λ e. cc) gave)
-too_many_of old new (Err (Malformed line)) ok err spares gave = absurd (never_full old new (Err (Malformed line)) err.0 (λ e. cc) gave)
-too_many_of old new (Err TooLong) ok err spares gave = inl refl
-too_many_of old new (Err ReadFault) ok err spares gave = absurd (never_spared old new (spares refl) gave)
-too_many_of old new (Err WriteFault) ok err spares gave = absurd (never_full old new (Ok err.1.items) err.1.script (λ e. cc) gave)
-too_many_of old new (Err Memory) ok err spares gave = inr refl
+pub too_many_of : {X : Type 0} (old new : Streams) (r : Result X SessionError) → HasRead old new r → (IsErrOf r ReadFault → TookAtMost 1048576 old.left new.left) → GaveTooMany 1048576 old new → (r ≡ Err TooLong) ⊎ (r ≡ Err Memory)
+too_many_of old new (Ok x) read spares gave = absurd (never_full old new (Ok read.0) read.1 (λ e. cc) gave)
+too_many_of old new (Err (Malformed line)) read spares gave = absurd (never_full old new (Err (Malformed line)) read (λ e. cc) gave)
+too_many_of old new (Err TooLong) read spares gave = inl refl
+too_many_of old new (Err ReadFault) read spares gave = absurd (never_spared old new (spares refl) gave)
+too_many_of old new (Err WriteFault) read spares gave = absurd (never_full old new (Ok read.1.0) read.1.1 (λ e. cc) gave)
+too_many_of old new (Err Memory) read spares gave = inr refl
 
 -- the source was read to its end: the answer is what its bytes parse to, or writing failed, or memory was lacking
-pub parsed_of : (old new : Streams) (ended : Type 0) (bytes : List ℕ) (r : Result Summary SessionError) → IfOk r (IsAnswered old new) → IfErr r (HasReason old new) → EndsReading ended r → ended → old.left ≡ Some bytes → AnswersBytes bytes r
-parsed_of old new ended bytes (Ok summary) ok err ends has known =
-    (ok.items, ap script_of (whole_of_known old.left new.left bytes ok.script.bytes known ok.script.read) ∙ ok.script.parsed)
-parsed_of old new ended bytes (Err (Malformed line)) ok err ends has known =
-    ap script_of (whole_of_known old.left new.left bytes err.0.bytes known err.0.read) ∙ err.0.parsed
-parsed_of old new ended bytes (Err TooLong) ok err ends has known = absurd (ends has)
-parsed_of old new ended bytes (Err ReadFault) ok err ends has known = absurd (ends has)
-parsed_of old new ended bytes (Err WriteFault) ok err ends has known =
-    (err.1.items, ap script_of (whole_of_known old.left new.left bytes err.1.script.bytes known err.1.script.read) ∙ err.1.script.parsed)
-parsed_of old new ended bytes (Err Memory) ok err ends has known = tt
+pub parsed_of : {X : Type 0} (old new : Streams) (ended : Type 0) (bytes : List ℕ) (r : Result X SessionError) → HasRead old new r → EndsReading ended r → ended → old.left ≡ Some bytes → AnswersBytes bytes r
+parsed_of old new ended bytes (Ok x) read ends has known = (read.0, parsed-known old new bytes (Ok read.0) read.1 known)
+parsed_of old new ended bytes (Err (Malformed line)) read ends has known = parsed-known old new bytes (Err (Malformed line)) read known
+parsed_of old new ended bytes (Err TooLong) read ends has known = absurd (ends has)
+parsed_of old new ended bytes (Err ReadFault) read ends has known = absurd (ends has)
+parsed_of old new ended bytes (Err WriteFault) read ends has known = (read.1.0, parsed-known old new bytes (Ok read.1.0) read.1.1 known)
+parsed_of old new ended bytes (Err Memory) read ends has known = tt
 
 -- the same of statuses
 pub ended_status : {X : Type 0} (ended : Type 0) (r : Result X SessionError) → EndsReading ended r → (status_of r ≡ 0) ⊎ (status_of r ≡ 3) ⊎ (status_of r ≡ 6) → ended

@@ -1,5 +1,6 @@
 pub mod Causes
 pub mod Checks
+pub mod Traces
 pub mod OneLine
 pub mod Live
 pub mod Generate

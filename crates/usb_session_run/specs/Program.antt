@@ -13,6 +13,7 @@ use Rattle.usb_session_run.specs.Generate.{generate_count}
 use Rattle.usb_session_run.specs.Disk.{disk_count}
 use Rattle.usb_session_run.specs.Session.{Streams, IsAnswered, HasReason}
 use Rattle.usb_session_run.specs.Checks.{is_check, IsCheck}
+use Rattle.usb_session_run.specs.Traces.{is_trace, IsTracing}
 use Rattle.usb_trace.specs.declared.check.Verdict.{Verdict}
 use Rattle.usb_session.specs.declared.summary.Summary.{Summary}
 
@@ -24,7 +25,9 @@ is_session (word ∷ next ∷ words) = false
 
 -- whether the words are none that the program knows
 abbrev pub is_usage : List (List ℕ) → Bool
-is_usage words = not (is_session words) && is_none (live_count words) && is_none (generate_count words) && is_none (disk_count words) && not (is_check words)
+is_usage words =
+    not (is_session words) && is_none (live_count words) && is_none (generate_count words) && is_none (disk_count words) && not (is_trace words)
+    && not (is_check words)
 
 -- the exit status of an error (docs/SCRIPT.md, "Statuses of the program")
 abbrev pub error_status : SessionError → ℕ
@@ -54,7 +57,7 @@ report_of (Err e) = error_line e
 
 -- the line for words that ask for nothing that the program has
 abbrev pub usage_line : List ℕ
-usage_line = codes "usage: nusb_sim [session|generate N|live N|disk N|check]\n"
+usage_line = codes "usage: nusb_sim [session|generate N|live N|disk N|trace|check]\n"
 
 -- of the sink for reports: the line was written to it, and no write failed; or a prefix of the line, where one write failed
 abbrev pub Reports : Option (List ℕ) → Option (List ℕ) → ℕ → ℕ → List ℕ → Type 0
@@ -86,5 +89,12 @@ pub record RunsLine (line : List ℕ) (old new : Option (List ℕ)) (before now 
 pub record RunsCheck (old new : Streams) (told told' : Option (List ℕ)) (faults faults' status : ℕ) : Type 0 where
   pub answer : Result Verdict SessionError
   pub check : IsCheck old new answer
+  pub status_is : status ≡ status_of answer
+  pub report : Reports told told' faults faults' (report_of answer)
+
+-- what the call with the word `trace` answers: of source and sink, what is reported, and the status
+pub record RunsTrace (old new : Streams) (told told' : Option (List ℕ)) (faults faults' status : ℕ) : Type 0 where
+  pub answer : Result (Unit {0}) SessionError
+  pub trace : IsTracing old new answer
   pub status_is : status ≡ status_of answer
   pub report : Reports told told' faults faults' (report_of answer)

@@ -12,6 +12,7 @@ mod rounds;
 mod run;
 mod standard;
 mod sure;
+mod tracing;
 mod writing;
 
 pub use memory::{MemSink, MemSource};

@@ -10,7 +10,8 @@ ghost use Rattle.usb_session_run.specs.Live.{live_count, live_line};
 ghost use Rattle.usb_session_run.specs.Generate.{generate_count, generate_line};
 ghost use Rattle.usb_session_run.specs.Disk.{disk_count, disk_line};
 ghost use Rattle.usb_session_run.specs.Checks.{is_check, TellsForm, TellsText, TellsYes};
-ghost use Rattle.usb_session_run.specs.Program.{is_session, is_usage, status_of, report_of, error_line, usage_line, Reports, RunsSession, RunsLine, RunsCheck};
+ghost use Rattle.usb_session_run.specs.Traces.{is_trace, WroteTrace};
+ghost use Rattle.usb_session_run.specs.Program.{is_session, is_usage, status_of, report_of, error_line, usage_line, Reports, RunsSession, RunsLine, RunsCheck, RunsTrace};
 ghost use Rattle.usb_trace.specs.Begins.{IsForm};
 ghost use Rattle.usb_trace.specs.Verdicts.{IsTrace};
 
@@ -20,6 +21,7 @@ use crate::live::live;
 use crate::outside::{Failed, Gathers, Sink, Source};
 use crate::rounds::run_disk;
 use crate::run::run_session;
+use crate::tracing::trace;
 use crate::writing::offer;
 use itoa::Buffer;
 use std::alloc::Global;
@@ -53,6 +55,26 @@ fn is_check(words: &[String]) -> bool
 {
     match words {
         [word] => word.as_str() == "check",
+        _ => false,
+    }
+}
+
+/// Words that ask for a check ask for no trace.
+fn check_is_no_trace(words: &[String])
+    ensures law { is_check (map string_bytes words.now) ≡ true →
+        is_trace (map string_bytes words.now) ≡ false }
+{}
+
+/// Whether the words ask for a trace.
+fn is_trace(words: &[String]) -> bool
+    ensures value { result ≡ is_trace (map string_bytes words.now) }
+    ensures alone { IsTrue result → is_session (map string_bytes words.now) ≡ false }
+    ensures no_transfers { IsTrue result → live_count (map string_bytes words.now) ≡ None }
+    ensures no_script { IsTrue result → generate_count (map string_bytes words.now) ≡ None }
+    ensures no_rounds { IsTrue result → disk_count (map string_bytes words.now) ≡ None }
+{
+    match words {
+        [word] => word.as_str() == "trace",
         _ => false,
     }
 }
@@ -169,7 +191,7 @@ fn report_usage<G: Sink>(diag: &mut G)
 {
     let _ = offer(
         diag,
-        b"usage: nusb_sim [session|generate N|live N|disk N|check]\n",
+        b"usage: nusb_sim [session|generate N|live N|disk N|trace|check]\n",
     );
 }
 
@@ -267,7 +289,59 @@ fn answer_check<S: Source, K: Sink, D: Sink>(
     status_of(&answer)
 }
 
-/// Answers words that ask for no check and no transfers between threads, and says the status. What it may do is as its type says: it starts no
+/// Writes the trace of the script that a source gives, and says the status.
+fn answer_trace<S: Source, K: Sink, D: Sink>(
+    alloc: Global,
+    source: &mut S,
+    sink: &mut K,
+    diag: &mut D,
+) -> u8
+    requires goes_on { ¬ (S.has_ended source.old) }
+    ensures trace { RunsTrace
+        (streams S.left S.faults K.written K.faults source.old sink.old)
+        (streams S.left S.faults K.written K.faults source.new sink.new)
+        (D.written diag.old) (D.written diag.new) (D.faults diag.old) (D.faults diag.new) result }
+    ensures right { result ≡ 0 → WroteTrace (K.written sink.old) (K.written sink.new) }
+    ensures known { result ≢ 2 }
+    ensures malformed { result ≡ 3 → (line : ℕ) × HasReason
+        (streams S.left S.faults K.written K.faults source.old sink.old)
+        (streams S.left S.faults K.written K.faults source.new sink.new)
+        (SessionError.Malformed line) }
+    ensures too_long { result ≡ 4 → HasReason
+        (streams S.left S.faults K.written K.faults source.old sink.old)
+        (streams S.left S.faults K.written K.faults source.new sink.new)
+        SessionError.TooLong }
+    ensures read_fault { result ≡ 5 → HasReason
+        (streams S.left S.faults K.written K.faults source.old sink.old)
+        (streams S.left S.faults K.written K.faults source.new sink.new)
+        SessionError.ReadFault }
+    ensures exact { (bytes : List ℕ) → IsQuiet
+        (streams S.left S.faults K.written K.faults source.old sink.old)
+        (streams S.left S.faults K.written K.faults source.new sink.new) bytes →
+        (result ≡ 7) ⊎ (result ≡ status_of (script_of bytes)) }
+    ensures ended { (result ≡ 0) ⊎ (result ≡ 3) ⊎ (result ≡ 6) → S.has_ended source.new }
+    ensures goes_on { (result ≡ 4) ⊎ (result ≡ 5) → ¬ (S.has_ended source.new) }
+    ensures parsed { S.has_ended source.new → (bytes : List ℕ) → S.left source.old ≡ Some bytes →
+        (result ≡ status_of (script_of bytes)) ⊎ (result ≡ 6) ⊎ (result ≡ 7) }
+    ensures too_many { GaveTooMany 1048576
+        (streams S.left S.faults K.written K.faults source.old sink.old)
+        (streams S.left S.faults K.written K.faults source.new sink.new) →
+        (result ≡ 4) ⊎ (result ≡ 7) }
+    ensures stops { result ≡ 5 →
+        FailedLast (S.faults source.old) (S.faults source.new) (S.has_failed source.new) }
+    ensures most { TookAtMost 1048577 (S.left source.old) (S.left source.new) }
+    ensures once { result ≡ 6 → RoseByOne (K.faults sink.old) (K.faults sink.new) }
+    ensures quiet { result ≡ 0 → K.faults sink.new ≡ K.faults sink.old }
+    ensures stops_writing { result ≡ 6 →
+        FailedLast (K.faults sink.old) (K.faults sink.new) (K.has_failed sink.new) }
+    ensures untold { result ≡ 0 → diag.new ≡ diag.old }
+{
+    let answer = trace(alloc, source, sink);
+    report(diag, &answer);
+    status_of(&answer)
+}
+
+/// Answers words that ask for no check, no trace and no transfers between threads, and says the status. What it may do is as its type says: it starts no
 /// thread, waits for none, asks no gate and sets no flag.
 fn answer_words<S: Source, K: Sink, D: Sink>(
     alloc: Global,
@@ -278,6 +352,7 @@ fn answer_words<S: Source, K: Sink, D: Sink>(
 ) -> u8
     requires goes_on { ¬ (S.has_ended source.old) }
     requires no_check { is_check (map string_bytes words.now) ≡ false }
+    requires no_trace { is_trace (map string_bytes words.now) ≡ false }
     requires no_transfers { live_count (map string_bytes words.now) ≡ None }
     ensures usage { result ≡ 2 ↔ (is_usage (map string_bytes words.now) ≡ true) }
     ensures usage_line { result ≡ 2 → Reports (D.written diag.old) (D.written diag.new)
@@ -399,8 +474,9 @@ pub fn run_program<R: Threads + Wait + Sync, S: Source, K: Sink, D: Sink, G: Gat
     ensures usage { result ≡ 2 ↔ (is_usage (map string_bytes words.now.items) ≡ true) }
     ensures usage_line { result ≡ 2 → Reports (D.written diag.old) (D.written diag.new)
         (D.faults diag.old) (D.faults diag.new) usage_line }
-    // Nothing is read where no session and no check is asked for, and nothing is written where the usage line is due.
+    // Nothing is read where no session, no trace and no check is asked for, and nothing is written where the usage line is due.
     ensures unread { is_session (map string_bytes words.now.items) ≡ false →
+        is_trace (map string_bytes words.now.items) ≡ false →
         is_check (map string_bytes words.now.items) ≡ false → source.new ≡ source.old }
     ensures unwritten { is_usage (map string_bytes words.now.items) ≡ true → sink.new ≡ sink.old }
     ensures session { is_session (map string_bytes words.now.items) ≡ true → RunsSession
@@ -485,6 +561,33 @@ pub fn run_program<R: Threads + Wait + Sync, S: Source, K: Sink, D: Sink, G: Gat
         (streams S.left S.faults K.written K.faults source.old sink.old)
         (streams S.left S.faults K.written K.faults source.new sink.new)
         → (result ≡ 0) ⊎ (result ≡ 7) }
+    // Of a trace: that of the script's last journal is written, or it is told why it isn't.
+    ensures trace { is_trace (map string_bytes words.now.items) ≡ true → RunsTrace
+        (streams S.left S.faults K.written K.faults source.old sink.old)
+        (streams S.left S.faults K.written K.faults source.new sink.new)
+        (D.written diag.old) (D.written diag.new) (D.faults diag.old) (D.faults diag.new) result }
+    // What is written then is the trace of a journal in which each event acts.
+    ensures trace_is_trace { is_trace (map string_bytes words.now.items) ≡ true → result ≡ 0 →
+        WroteTrace (K.written sink.old) (K.written sink.new) }
+    // Where nothing fails, the status is what the script's bytes parse to, or want of memory.
+    ensures trace_exact { is_trace (map string_bytes words.now.items) ≡ true →
+        (bytes : List ℕ) → IsQuiet
+        (streams S.left S.faults K.written K.faults source.old sink.old)
+        (streams S.left S.faults K.written K.faults source.new sink.new) bytes →
+        (result ≡ 7) ⊎ (result ≡ status_of (script_of bytes)) }
+    // The source has ended exactly where the whole script was read (but for want of memory), and then the status is what its bytes
+    // parse to, or that of a write fault.
+    ensures trace_ended { is_trace (map string_bytes words.now.items) ≡ true →
+        (result ≡ 0) ⊎ (result ≡ 3) ⊎ (result ≡ 6) → S.has_ended source.new }
+    ensures trace_parsed { is_trace (map string_bytes words.now.items) ≡ true →
+        S.has_ended source.new → (bytes : List ℕ) → S.left source.old ≡ Some bytes →
+        (result ≡ status_of (script_of bytes)) ⊎ (result ≡ 6) ⊎ (result ≡ 7) }
+    // The byte past the longest script is taken only where the script is too long, or memory was lacking.
+    ensures trace_too_many { is_trace (map string_bytes words.now.items) ≡ true →
+        GaveTooMany 1048576
+        (streams S.left S.faults K.written K.faults source.old sink.old)
+        (streams S.left S.faults K.written K.faults source.new sink.new) →
+        (result ≡ 4) ⊎ (result ≡ 7) }
     // Of a check: the verdict on the whole text is written, or it is told why there is none.
     ensures check { is_check (map string_bytes words.now.items) ≡ true → RunsCheck
         (streams S.left S.faults K.written K.faults source.old sink.old)
@@ -519,8 +622,12 @@ pub fn run_program<R: Threads + Wait + Sync, S: Source, K: Sink, D: Sink, G: Gat
         TookAtMost 16777217 (S.left source.old) (S.left source.new) }
 {
     let words = words.as_slice();
+    check_is_no_trace(words);
     if is_check(words) {
         return answer_check(alloc, source, sink, diag);
+    }
+    if is_trace(words) {
+        return answer_trace(alloc, source, sink, diag);
     }
     let Some(n) = live_count(words) else {
         return answer_words(alloc, words, source, sink, diag);

@@ -101,7 +101,7 @@ fn traces_are_checked(rt: HostRuntime) -> Result<(), Fail> {
         let wanted = (*status, *output, *report);
         expect_run(&rt, rt.alloc(), name, &["check"], text.as_bytes(), wanted)?;
     }
-    let usage = "usage: nusb_sim [session|generate N|live N|disk N|check]\n";
+    let usage = "usage: nusb_sim [session|generate N|live N|disk N|trace|check]\n";
     let words = ["check", "1"];
     expect_run(&rt, rt.alloc(), "a word more", &words, b"", (2, "", usage))
 }

@@ -38,7 +38,7 @@ fn wait_for(seen: &Seen, found: &Seen) {
     }
 }
 
-const USAGE: &str = "usage: nusb_sim [session|generate N|live N|disk N|check]\n";
+const USAGE: &str = "usage: nusb_sim [session|generate N|live N|disk N|trace|check]\n";
 
 /// Words, the status, what is written and what is reported.
 const GENERATED: [(&[&str], u8, &str, &str); 8] = [

@@ -19,13 +19,13 @@ use usb_session_run::{
 };
 
 /// Lines that open a device, and rows of a name, the lines behind these, and what these are answered.
-type Rows = (
+pub type Rows = (
     (&'static str, &'static str),
     &'static [(&'static str, &'static str, &'static str)],
 );
 
 /// Transfers, messages that are read and written, control transfers on their way, and blocking transfers.
-const SCRIPTS: [Rows; 5] = [
+pub const SCRIPTS: [Rows; 5] = [
     (OPENED, &TRANSFERS),
     (OPENED, &FRAMED),
     (CLAIMED, &WRITTEN),
