@@ -47,6 +47,11 @@ answer_of script bytes old new summary known empty written answered =
       valid = ap script_of (whole_of_known old.left new.left script answered.script.bytes known answered.script.read) ∙ answered.script.parsed;
       output_is = all_of_empty old.written new.written bytes _ empty written answered.wrote;
       summed = answered.summed;
+      before = old;
+      after = new;
+      given = known;
+      written = written;
+      answered = answered;
     }
 
 refusal_of : (script : List ℕ) (old new : Streams) (e : SessionError) → old.left ≡ Some script → (Rose old.read_faults new.read_faults → ⊥)

@@ -1,5 +1,5 @@
 -- What a whole script comes to, as a caller in C sees it.
-use Rattle.std.specs.Prelude.{ℕ, ◌≡◌, ◌<◌, ◌⊎◌, List, length, take, Ok, Err}
+use Rattle.std.specs.Prelude.{ℕ, ◌≡◌, ◌<◌, ◌⊎◌, List, length, take, Ok, Err, Some}
 use Rattle.usb_script_lines.specs.declared.item.Item.{Item}
 use Rattle.usb_script.specs.declared.error.SessionError.{SessionError}
 use Rattle.usb_script.specs.declared.error.SessionError.TheVariants.{Malformed, TooLong, ReadFault, WriteFault, Memory}
@@ -7,14 +7,21 @@ use Rattle.usb_script.specs.Parse.{script_of}
 use Rattle.usb_session.specs.Output.{output}
 use Rattle.usb_session.specs.Sums.{sum_of}
 use Rattle.usb_session.specs.declared.summary.Summary.{Summary}
+use Rattle.usb_session_run.specs.Session.{Streams, IsAnswered}
 use Rattle.usb_core_c.specs.declared.session.Told.{Told}
 
--- a script is valid, these bytes are its whole output, and the summary is its sum
+-- a script is valid, these bytes are its whole output, and the summary is its sum; and all is so that a session promises which reads the
+-- script from a source and writes these bytes to a sink
 pub record IsAnswer (script bytes : List ℕ) (summary : Summary) : Type 0 where
   pub items : List Item
   pub valid : script_of script ≡ Ok items
   pub output_is : bytes ≡ output items
   pub summed : summary ≡ sum_of items
+  pub before : Streams
+  pub after : Streams
+  pub given : before.left ≡ Some script
+  pub written : after.written ≡ Some bytes
+  pub answered : IsAnswered before after summary
 
 -- why a script in memory is not answered: it does not parse, or memory was lacking
 abbrev pub IsRefusal : List ℕ → SessionError → Type 0
