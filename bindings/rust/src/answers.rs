@@ -8,7 +8,8 @@ use std::thread;
 /// Answers whole scripts: one line for each call, and then one for the fate of each transfer.
 ///
 /// Implementors are to give the same bytes for the same script, and answers of the beginning of a
-/// script that are the beginning of its answers.
+/// script that are the beginning of its answers. The proved library does, by a law of what scripts
+/// are answered (`beginnings_are_answered_alike`, crates/usb_session_beginnings).
 pub trait Answers: Send {
     /// The answers of a script, or why there are none.
     fn answer(&mut self, script: &[u8]) -> Result<Vec<u8>, String>;

@@ -1,7 +1,8 @@
 //! A script that grows with each call, and what its answers tell.
 //!
 //! The whole script is answered anew for each answer that is needed. That is enough, since the
-//! answers of the beginning of a script are the beginning of its answers.
+//! answers of the beginning of a script are the beginning of its answers. That is a law of what the
+//! library answers (`beginnings_are_answered_alike`, crates/usb_session_beginnings).
 //!
 //! Which transfers are unfinished is asked of the session too. Behind the script it is asked what
 //! would be if each transfer that is unfinished failed with an errno that nothing else has. Those

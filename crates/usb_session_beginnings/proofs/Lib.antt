@@ -1,0 +1,17 @@
+pub mod Answers
+pub mod Clients
+pub mod Closes
+pub mod Controls
+pub mod Endpoints
+pub mod Fronts
+pub mod Handles
+pub mod Hosts
+pub mod Law
+pub mod Lines
+pub mod Opens
+pub mod Readers
+pub mod Scripts
+pub mod Starts
+pub mod States
+pub mod Streams
+pub mod Writers
