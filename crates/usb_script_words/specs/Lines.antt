@@ -1,6 +1,6 @@
 -- The lines of a script, and the words of a line.
-use Rattle.std.specs.Prelude.{ℕ, ◌-◌, ◌==◌, ◌&&◌, nat_le, Bool, true, false, not, List, [], ◌∷◌, length, take, slice_index, filter, find, Option, Some, None, if◌then◌else◌}
-use Rattle.std.specs.List.{slice_split}
+use Rattle.std.specs.Prelude.{◌≡◌, ℕ, ◌-◌, ◌==◌, ◌&&◌, nat_le, Bool, true, false, not, List, [], ◌∷◌, length, take, slice_index, filter, find, Option, Some, None, if◌then◌else◌}
+use Rattle.std.specs.List.{list_all, slice_split}
 
 -- a byte before the first of these lines
 abbrev pub onto_line : ℕ → List (List ℕ) → List (List ℕ)
@@ -41,3 +41,21 @@ is_skipped_by (Some b) = b == 35
 -- whether a line is skipped: a comment, whatever it holds, a line of spaces or an empty one
 abbrev pub is_skipped : List ℕ → Bool
 is_skipped line = is_skipped_by (find (λ b. not (is_space b)) line)
+
+-- what stands behind an LF at the front
+abbrev pub behind_lf : List ℕ → Option (List ℕ)
+behind_lf [] = None
+behind_lf (b ∷ bytes) = if b == 10 then Some bytes else None
+
+-- what stands behind the end of a line at the front: an LF, or a CR and an LF
+abbrev pub behind_end : List ℕ → Option (List ℕ)
+behind_end [] = None
+behind_end (b ∷ bytes) = if b == 13 then behind_lf bytes else behind_lf (b ∷ bytes)
+
+-- the first line of these bytes is no comment, may hold each of its own bytes, and has these words; behind it stand the others
+pub record IsFirstSplit (bytes : List ℕ) (words : List (List ℕ)) (after : List ℕ) : Type 0 where
+  pub line : List ℕ
+  pub lines : lines_of bytes ≡ line ∷ lines_of after
+  pub printable : list_all is_printable (without_cr line) ≡ true
+  pub spelled : words ≡ words_of (without_cr line)
+  pub skipped : is_skipped (without_cr line) ≡ (length words == 0)

@@ -41,6 +41,6 @@ pub use selector::{Criterion, Selector};
 pub use string_index::StringIndex;
 pub use timeout::Timeout;
 pub use words::{
-    MAX_TIME, byte, call, errno, hex_byte, hex_word, number, number_between, reads, skip_spaces,
-    split_words,
+    MAX_TIME, byte, call, errno, hex_byte, hex_word, is_skipped, number, number_between, reads,
+    skip_spaces, split_first_line, split_words,
 };

@@ -1,11 +1,12 @@
 //! Words of a line, and what each of them spells.
 
-ghost use Rattle.std.specs.Prelude.{◌≡◌, ◌<◌, ◌≤◌, ◌≢◌, ℕ, length, slice_index, [], ◌∷◌, IfOk, OnOk, IfErr, IfSome, IfNone};
+ghost use Rattle.std.specs.Prelude.{◌≡◌, ◌<◌, ◌≤◌, ◌≢◌, ℕ, Some, length, slice_index, take, filter, true, [], ◌∷◌, ◌+◌, ◌++◌, IfOk, OnOk, IfErr, IfSome, IfNone};
 ghost use Rattle.usb_script_words.specs.declared.line_error.LineError.TheVariants.{Memory};
 ghost use Rattle.usb_script_words.specs.Fields.{texts};
+ghost use Rattle.std.specs.List.{list_all};
 ghost use Rattle.std.specs.Str.{bytes_eq};
 ghost use Rattle.hex.specs.Hex.{hex_digit_value};
-ghost use Rattle.usb_script_words.specs.Lines.{words_of, is_skipped};
+ghost use Rattle.usb_script_words.specs.Lines.{words_of, is_word, is_printable, is_skipped, behind_end, IsFirstSplit};
 ghost use Rattle.usb_script_words.specs.Outcome.{Gives};
 ghost use Rattle.usb_script_words.specs.Words.{digits_after, decimal_of, number_of, number_between, has_leading_zero, hex_byte_of, hex_word_of, errno_of, call_of};
 ghost use Rattle.usb_kernel_devices.specs.Errnos.{IsErrno};
@@ -44,6 +45,13 @@ pub fn skip_spaces(line: &[u8]) -> &[u8]
         rest = after;
     }
     rest
+}
+
+/// Whether the line is a comment, a line of spaces or an empty one.
+pub fn is_skipped(line: &[u8]) -> bool
+    ensures value { result ≡ is_skipped line.now }
+{
+    matches!(skip_spaces(line), [] | [b'#', ..])
 }
 
 /// The length of the word at the front.
@@ -87,6 +95,74 @@ pub fn split_words<'a>(line: &'a [u8], words: &mut Vec<&'a [u8]>) -> Result<(), 
         rest = after;
     }
     Ok(())
+}
+
+/// Adds these bytes as a word, where there are any.
+fn push_word<'a>(words: &mut Vec<&'a [u8]>, word: &'a [u8]) -> Result<(), LineError>
+    ensures value { OnOk result
+        (texts words.new.items ≡ texts words.old.items ++ filter is_word (word.now ∷ [])) }
+    ensures few { OnOk result
+        (length words.new.items ≤ length words.old.items + length word.now) }
+    ensures only { IfErr result (λ e. e ≡ Memory) }
+{
+    if !word.is_empty() {
+        words.push(word)?;
+    }
+    Ok(())
+}
+
+/// The words of the bytes at the front that a line may hold, in place of those that are there, and how many these bytes
+/// are.
+fn split_printable<'a>(bytes: &'a [u8], words: &mut Vec<&'a [u8]>) -> Result<usize, LineError>
+    ensures within { IfOk result (λ n. n ≤ length bytes.now) }
+    ensures printable { IfOk result (λ n. list_all is_printable (take n bytes.now) ≡ true) }
+    ensures value { IfOk result (λ n. texts words.new.items ≡ words_of (take n bytes.now)) }
+    ensures few { IfOk result (λ n. length words.new.items ≤ n) }
+    ensures only { IfErr result (λ e. e ≡ Memory) }
+{
+    words.clear();
+    let mut start = 0usize;
+    for (i, b) in bytes.iter().enumerate() {
+        if !b.is_ascii_graphic() {
+            push_word(words, &bytes[start..i])?;
+            if *b != b' ' {
+                return Ok(i);
+            }
+            start = i + 1;
+        }
+    }
+    push_word(words, &bytes[start..])?;
+    Ok(bytes.len())
+}
+
+/// What stands behind the LF at the front, or the CR and the LF, if they do.
+fn behind_end(bytes: &[u8]) -> Option<&[u8]>
+    ensures value { IfSome result (λ after. behind_end bytes.now ≡ Some after.now) }
+    ensures shorter { IfSome result (λ after. length after.now < length bytes.now) }
+{
+    match bytes {
+        [b'\n', after @ ..] | [b'\r', b'\n', after @ ..] => Some(after),
+        _ => None,
+    }
+}
+
+/// The words of the first line, in place of those that are there, and what stands behind the line. None, and any words, where
+/// the line is a comment, where it holds a byte that is not printable, and where its end is that of the bytes.
+pub fn split_first_line<'a>(
+    bytes: &'a [u8],
+    words: &mut Vec<&'a [u8]>,
+) -> Result<Option<&'a [u8]>, LineError>
+    ensures value { IfOk result (λ found. IfSome found
+        (λ after. IsFirstSplit bytes.now (texts words.new.items) after.now)) }
+    ensures few { IfOk result (λ found. IfSome found
+        (λ after. length words.new.items + length after.now < length bytes.now)) }
+    ensures only { IfErr result (λ e. e ≡ Memory) }
+{
+    if is_skipped(bytes) {
+        return Ok(None);
+    }
+    let len = split_printable(bytes, words)?;
+    Ok(behind_end(&bytes[len..]))
 }
 
 /// The number that the digits make.
