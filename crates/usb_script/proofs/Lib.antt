@@ -7,4 +7,5 @@ mod Lengths
 mod LinesRead
 mod ReadOn
 pub mod ScriptsParse
+mod WordsLine
 mod WritesRead

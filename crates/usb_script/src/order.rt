@@ -1,6 +1,6 @@
 //! The rules that look back at the lines before.
 
-ghost use Rattle.std.specs.Prelude.{◌≡◌, ◌<◌, ◌==◌, ◌&&◌, ◌++◌, ◌∷◌, [], vec_len, vec_capacity, OnOk, OnErr, IfErr};
+ghost use Rattle.std.specs.Prelude.{◌≡◌, ◌<◌, ◌==◌, ◌&&◌, ◌++◌, ◌∷◌, [], vec_len, vec_capacity, Err, OnOk, OnErr, IfErr};
 ghost use Rattle.std.specs.List.{list_any};
 ghost use Rattle.usb_script_words.specs.declared.line_error.LineError.TheVariants.{Memory};
 ghost use Rattle.usb_script_lines.specs.declared.reading.Reading.TheVariants.{Read};
@@ -53,6 +53,14 @@ fn prepare(items: &mut Vec<Item>, taken: &mut Vec<Taken>, item: &Item) -> Result
 {
     items.reserve(1)?;
     add_taken(taken, item)
+}
+
+/// Drops the item, which is not added. It stands by itself, so that adding one pays for no drop.
+#[cold]
+fn refuse(_item: Item, error: LineError) -> Result<(), LineError>
+    ensures value { result ≡ Err error }
+{
+    Err(error)
 }
 
 fn is_name_in(taken: &[Taken], name: Name) -> bool
@@ -154,10 +162,14 @@ impl ItemsBefore {
         } else {
             Err(LineError::Malformed)
         };
-        prepared?;
-        let is_setup = item.is_setup();
-        self.items.push_reserved(item);
-        self.are_setup = self.are_setup && is_setup;
-        Ok(())
+        match prepared {
+            Ok(()) => {
+                let is_setup = item.is_setup();
+                self.items.push_reserved(item);
+                self.are_setup = self.are_setup && is_setup;
+                Ok(())
+            }
+            Err(error) => refuse(item, error),
+        }
     }
 }

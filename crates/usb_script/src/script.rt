@@ -1,8 +1,9 @@
 //! A whole script.
 
 ghost use Rattle.std.specs.Prelude.{◌≡◌, ◌+◌, ◌<◌, ◌≤◌, ◌∷◌, length, IfOk, OnOk, IfErr};
+ghost use Rattle.usb_script_words.specs.Fields.{texts};
 ghost use Rattle.usb_script_words.specs.Lines.{lines_of};
-ghost use Rattle.usb_script.specs.Parse.{with_line, script_of};
+ghost use Rattle.usb_script.specs.Parse.{with_line, with_words, with_first, script_of};
 ghost use Rattle.usb_script.specs.Outcome.{OrMemory, IsParsingError};
 ghost use Rattle.usb_script_words.specs.Outcome.{Gives};
 ghost use Rattle.usb_script_lines.specs.ItemKinds.{place_count};
@@ -12,8 +13,8 @@ use crate::order::ItemsBefore;
 use std::alloc::Global;
 use std::marker::Model;
 use usb_desc::NoMemory;
-use usb_script_lines::{Item, Reading, read_line};
-use usb_script_words::LineError;
+use usb_script_lines::{Item, Reading, read_line, read_words};
+use usb_script_words::{LineError, is_skipped, split_first_line};
 
 /// The most bytes that a script has.
 pub const MAX_SCRIPT: usize = 1048576;
@@ -97,7 +98,9 @@ fn first_line(bytes: &[u8]) -> (&[u8], &[u8])
     (bytes, &bytes[bytes.len()..])
 }
 
-/// The items with those of one more line, which is split into these words.
+/// The items with those of one more line, which is split into these words. It stands by itself, so
+/// that a line which is split as it is found pays nothing for it.
+#[inline(never)]
 fn add_line<'a>(
     alloc: Global,
     items: &mut ItemsBefore,
@@ -116,6 +119,52 @@ fn add_line<'a>(
     }
 }
 
+/// The items with that of a line of these words. A line with no word is skipped.
+fn add_words(alloc: Global, items: &mut ItemsBefore, words: &[&[u8]]) -> Result<(), LineError>
+    ensures value { Gives (λ _. items.new) result (with_words items.old (texts words.now)) }
+    ensures few { OnOk result (length items.new ≤ length items.old + 1) }
+    ensures places { OnOk result
+        (place_count items.new ≤ place_count items.old + length words.now) }
+{
+    if words.is_empty() {
+        return Ok(());
+    }
+    match read_words(alloc, words) {
+        Ok(item) => items.add(item),
+        Err(error) => Err(error),
+    }
+}
+
+/// The items with those of the first line, which is split into these words, and the bytes behind it.
+fn add_first_line<'a>(
+    alloc: Global,
+    items: &mut ItemsBefore,
+    words: &mut Vec<&'a [u8]>,
+    bytes: &'a [u8],
+) -> Result<&'a [u8], LineError>
+    requires some { 0 < length bytes.now }
+    ensures value { Gives (λ after. (items.new, lines_of after.now)) result
+        (with_first items.old (lines_of bytes.now)) }
+    ensures shorter { IfOk result (λ after. length after.now < length bytes.now) }
+    ensures few { IfOk result (λ after.
+        length items.new + length after.now ≤ length items.old + length bytes.now) }
+    ensures places { IfOk result (λ after.
+        place_count items.new + length after.now ≤ place_count items.old + length bytes.now) }
+{
+    if let Some(after) = split_first_line(bytes, words)? {
+        return match add_words(alloc, items, words.as_slice()) {
+            Ok(()) => Ok(after),
+            Err(error) => Err(error),
+        };
+    }
+    let (line, after) = first_line(bytes);
+    if is_skipped(line) {
+        return Ok(after);
+    }
+    add_line(alloc, items, words, line)?;
+    Ok(after)
+}
+
 /// The script that the bytes spell. A line outside the grammar is told by its number; a script of
 /// more than [`MAX_SCRIPT`] bytes is too long, whatever it holds.
 pub fn parse_script(alloc: Global, bytes: &[u8]) -> Result<Script, SessionError>
@@ -130,13 +179,11 @@ pub fn parse_script(alloc: Global, bytes: &[u8]) -> Result<Script, SessionError>
     let mut rest = bytes;
     let mut line = 1u32;
     while !rest.is_empty() {
-        let (first, after) = first_line(rest);
-        match add_line(alloc, &mut items, &mut words, first) {
-            Ok(()) => {}
+        match add_first_line(alloc, &mut items, &mut words, rest) {
+            Ok(after) => rest = after,
             Err(LineError::Malformed) => return Err(SessionError::Malformed { line }),
             Err(LineError::Memory) => return Err(SessionError::Memory),
         }
-        rest = after;
         line += 1;
     }
     Ok(Script {

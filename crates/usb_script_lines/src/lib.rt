@@ -14,7 +14,7 @@ mod several_forms;
 mod tree_forms;
 
 pub use item::Item;
-pub use line::read_line;
+pub use line::{read_line, read_words};
 pub use reading::Reading;
 pub use usb_script_words::{
     ControlData, ControlTarget, Criterion, Data, EndpointKind, Errno, FileName, Framing, Length,

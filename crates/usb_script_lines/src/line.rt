@@ -2,16 +2,17 @@
 
 ghost use Rattle.std.specs.Prelude.{◌≡◌, ◌≤◌, length, IfOk};
 ghost use Rattle.std.specs.List.{list_all};
-ghost use Rattle.usb_script_words.specs.Lines.{is_printable, without_cr, is_skipped};
+ghost use Rattle.usb_script_words.specs.Lines.{is_printable, without_cr};
+ghost use Rattle.usb_script_words.specs.Fields.{texts};
 ghost use Rattle.usb_script_words.specs.Outcome.{Gives};
-ghost use Rattle.usb_script_lines.specs.LineForms.{item_of, item_reading_of, reading_of};
+ghost use Rattle.usb_script_lines.specs.LineForms.{form_of, item_of, item_reading_of, reading_of};
 ghost use Rattle.usb_script_lines.specs.ItemKinds.{places_in, places_read};
 
 use crate::by_letter::with_first_word;
 use crate::item::Item;
 use crate::reading::Reading;
 use std::alloc::Global;
-use usb_script_words::{LineError, skip_spaces, split_words};
+use usb_script_words::{LineError, is_skipped, split_words};
 
 /// Whether a line holds nothing but spaces and visible characters of ASCII.
 fn is_printable(line: &[u8]) -> bool
@@ -20,8 +21,20 @@ fn is_printable(line: &[u8]) -> bool
     line.iter().all(|b| 32 <= *b && *b <= 126)
 }
 
+/// The item of these words.
+#[tactic(auto, unfolding(crate::specs::LineForms::form_of))]
+pub fn read_words(alloc: Global, words: &[&[u8]]) -> Result<Item, LineError>
+    ensures value { Gives (λ i. i) result (form_of (texts words.now)) }
+    ensures few { IfOk result (λ item. places_in item ≤ length words.now) }
+{
+    match words {
+        [name, rest @ ..] => with_first_word(alloc, *name, rest),
+        [] => Err(LineError::Malformed),
+    }
+}
+
 /// The item of a line, which is split into these words.
-#[tactic(auto, unfolding(crate::specs::LineForms::item_of, crate::specs::LineForms::form_of))]
+#[tactic(auto, unfolding(crate::specs::LineForms::item_of))]
 fn item_line<'a>(
     alloc: Global,
     words: &mut Vec<&'a [u8]>,
@@ -31,10 +44,7 @@ fn item_line<'a>(
     ensures few { IfOk result (λ item. places_in item ≤ length line.now) }
 {
     split_words(line, words)?;
-    match words.as_slice() {
-        [name, rest @ ..] => with_first_word(alloc, *name, rest),
-        [] => Err(LineError::Malformed),
-    }
+    read_words(alloc, words.as_slice())
 }
 
 /// What a line gives that isn't skipped.
@@ -65,13 +75,6 @@ fn without_cr(line: &[u8]) -> &[u8]
         [front @ .., b'\r'] => front,
         _ => line,
     }
-}
-
-/// Whether the line is a comment, a line of spaces or an empty one.
-fn is_skipped(line: &[u8]) -> bool
-    ensures value { result ≡ is_skipped line.now }
-{
-    matches!(skip_spaces(line), [] | [b'#', ..])
 }
 
 /// What a line gives, which may have a CR at its end. It is split into these words, which are used for each line.

@@ -1,5 +1,6 @@
 use Rattle.std.proofs.Common.{◌≡◌, None, rules}
-use Rattle.usb_script.specs.Parse.{with_line}
+use Rattle.usb_script.specs.Parse.{with_first}
+use Rattle.usb_script_words.specs.Lines.{lines_of}
 use Rattle.usb_script.proofs.ParseOn.{script_of_long, script_of_refused, script_of_read}
 use Rattle.usb_script.proofs.script.parse_script.Goals as goal
 
@@ -8,10 +9,9 @@ returns-then-bytes-gt-MAX_SCRIPT-clause-answer c = script_of_long c.args.bytes.n
 
 pub returns-in-Err-Malformed-clause-answer : goal.returns-in-Err-Malformed-clause-answer
 returns-in-Err-Malformed-clause-answer c =
-    let first = c.first_line.result.0.now in
-    let refused : with_line c.loop-rest.items first ≡ None = search rules in
-    script_of_refused c.args.bytes.now c.loop-rest.rest.now first c.first_line.result.1.now c.loop-rest.items c.loop-rest.line
-    c.if-bytes-gt-MAX_SCRIPT.false c.loop-rest.invariant.parsed c.first_line.ensures.lines refused
+    let refused : with_first c.loop-rest.items (lines_of c.loop-rest.rest.now) ≡ None = search rules in
+    script_of_refused c.args.bytes.now c.loop-rest.rest.now c.loop-rest.items c.loop-rest.line
+    c.if-bytes-gt-MAX_SCRIPT.false c.loop-rest.invariant.parsed refused
 
 pub returns-clause-answer : goal.returns-clause-answer
 returns-clause-answer c =

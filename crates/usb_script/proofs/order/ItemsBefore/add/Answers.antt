@@ -5,8 +5,8 @@ use Rattle.usb_script.proofs.TakenLemmas.{taken-more}
 use Rattle.usb_script.proofs.order.ItemsBefore.add.Goals as goal
 use Rattle.usb_script.proofs.order.ItemsBefore.add.Goals.{then-may_follow, else-may_follow}
 
-pub invariant_of-self-2 : goal.invariant_of-self-2
-invariant_of-self-2 c =
+pub invariant_of-self : goal.invariant_of-self
+invariant_of-self c =
     elim c.if-may_follow.branch [
       | then-may_follow w ↦
           let items : c.if-may_follow.self-inside.items.items ≡ c.self.inside.items.items = grind (arith, common_steps) in
