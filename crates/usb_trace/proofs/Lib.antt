@@ -9,6 +9,7 @@ pub mod Keeping
 pub mod Malformed
 pub mod Plugged
 pub mod Range
+pub mod Reading
 pub mod Replaying
 pub mod TextLines
 pub mod TextRead

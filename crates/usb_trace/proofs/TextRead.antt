@@ -1,11 +1,12 @@
 -- A text that is read line by line, and where that fails.
-use Rattle.std.proofs.Common.{◌≡◌, ◌≢◌, ℕ, ◌+◌, ◌<◌, suc, zero, get_or, eqb, false, List, [], ◌∷◌, ◌++◌, length, take, drop, map, flat_map, Option, Some, None, option_and_then, refl, sym, ap, ◌∙◌, arith}
+use Rattle.std.proofs.Common.{◌≡◌, ◌≢◌, ℕ, ◌+◌, ◌<◌, suc, zero, get_or, slice_index, eqb, false, List, [], ◌∷◌, ◌++◌, length, take, drop, map, flat_map, Option, Some, None, option_and_then, refl, sym, ap, ◌∙◌, arith}
 use Rattle.std.specs.List.{All}
 use Rattle.std.proofs.Math.Seq.{take-append_seam}
-use Rattle.std.proofs.lemmas.Bool.{ne_eqb}
+use Rattle.std.proofs.lemmas.Bool.{ne_eqb, eqb-true, eq-eqb}
 use Rattle.std.proofs.lemmas.List.{append-nil, length-map}
 use Rattle.std.proofs.lemmas.List.Concat.{flat_map-append}
 use Rattle.std.proofs.lemmas.List.Elements.{All-append}
+use Rattle.memchr.specs.Find.{IsFirstByte, is_byte}
 use Rattle.usb_session_text.specs.Words.{spaced}
 use Rattle.usb_trace_lines.specs.declared.line.TraceLine.{TraceLine}
 use Rattle.usb_trace_lines.specs.declared.line.TraceLine.TheVariants as line
@@ -160,10 +161,15 @@ lines-at (b ∷ bytes) (suc i) within here before =
     let rest = lines-at bytes i (omega arith) here (λ k h. before (suc k) (omega arith)) in
     rw (other, rest) refl
 
-pub parts-at : (bytes : List ℕ) (i : ℕ) → i < length bytes → get_or bytes i 0 ≡ 10 → bytes ≡ (take i bytes ++ 10 ∷ []) ++ drop (suc i) bytes
-parts-at [] i within here = absurd (omega arith)
-parts-at (b ∷ bytes) zero within here = let feed : b ≡ 10 = here in rw feed refl
-parts-at (b ∷ bytes) (suc i) within here = ap (λ (l : List ℕ). b ∷ l) (parts-at bytes i (omega arith) here)
+-- the first LF of a text, and a text with none
+pub first-feed : (bytes : List ℕ) (i : ℕ) → IsFirstByte (is_byte 10) bytes (Some i) → (i < length bytes) × ((get_or bytes i 0 ≡ 10) × ((k : ℕ) → k < i → get_or bytes k 0 ≡ 10 → ⊥))
+first-feed bytes i h = (
+  h.0.high,
+  (eqb-true (get_or bytes i 0) 10 h.1, λ k below is. h.0.before k (omega arith) below (eq-eqb (get_or bytes k 0) 10 is)),
+)
+
+pub no-feed : (bytes : List ℕ) → IsFirstByte (is_byte 10) bytes None → HasNoEnd bytes
+no-feed bytes h = λ k within is. h k (omega arith) within (eq-eqb (slice_index bytes k) 10 is)
 
 -- ---- where reading fails
 

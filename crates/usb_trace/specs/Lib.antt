@@ -4,5 +4,6 @@ pub mod FirstOther
 pub mod Laws
 pub mod Lines
 pub mod Read
+pub mod Replayed
 pub mod Replays
 pub mod Verdicts

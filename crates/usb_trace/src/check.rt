@@ -1,20 +1,17 @@
 //! The check of a trace.
 
-ghost use Rattle.std.specs.Prelude.{◌≡◌, ◌+◌, ◌≤◌, ◌^◌, ◌⊎◌, ◌≢◌, ℕ, length, slice_get, false, Ok, Err, Some, None, OnOk, IfSome, IsTrue};
-ghost use Rattle.std.specs.List.{All};
+ghost use Rattle.std.specs.Prelude.{◌≡◌, ◌≤◌, ◌^◌, ◌⊎◌, ◌≢◌, ℕ, List, length, slice_get, false, Ok, Err, Some, None, OnOk, IfSome, IsTrue};
 ghost use Rattle.usb_trace_lines.specs.Fates.{fates_of};
-ghost use Rattle.usb_trace_lines.specs.Forms.{IsTold, IsFateTold};
-ghost use Rattle.usb_trace_lines.specs.Texts.{trace_text};
 ghost use Rattle.usb_trace.specs.Begins.{IsForm};
 ghost use Rattle.usb_trace.specs.Fails.{FailsFirstAt};
 ghost use Rattle.usb_trace.specs.FirstOther.{IsFirstOther};
+ghost use Rattle.usb_trace.specs.Read.{HasText};
 ghost use Rattle.usb_trace.specs.Verdicts.{IsTrace};
 
 use crate::error::TraceError;
-use crate::journal::{fresh_kernel, replay};
+use crate::replay::Replay;
 use crate::text::{TraceText, read_text};
 use std::alloc::Global;
-use usb_desc::NoMemory;
 use usb_kernel::Kernel;
 use usb_trace_lines::FateLine;
 
@@ -63,28 +60,24 @@ fn first_other_fate(kernel: &Kernel, fates: &[FateLine]) -> Option<usize>
     None
 }
 
-/// The verdict on the text of these events and fates.
-fn judge(alloc: Global, text: TraceText) -> Result<Verdict, NoMemory>
-    requires events { All IsTold text.events.items }
-    requires fates { All IsFateTold text.fates.items }
-    requires few { length text.events.items + length text.fates.items ≤ 2 ^ 24 }
-    ensures yes { result ≡ Ok Verdict.Yes
-        → IsTrace (trace_text text.events.items text.fates.items) }
-    ensures no { (line : ℕ) → result ≡ Ok (Verdict.No line)
-        → FailsFirstAt IsTrace (trace_text text.events.items text.fates.items) line }
+/// The verdict on the text of which this was read.
+fn judge(text: &TraceText) -> Verdict
+    requires text { (bytes : List ℕ) × HasText bytes text.now }
+    ensures yes { result ≡ Verdict.Yes → (bytes : List ℕ) → HasText bytes text.now →
+        IsTrace bytes }
+    ensures no { (line : ℕ) → result ≡ Verdict.No line → (bytes : List ℕ) →
+        HasText bytes text.now → FailsFirstAt IsTrace bytes line }
 {
-    let count = text.events.len();
-    let mut kernel = fresh_kernel(alloc, count)?;
-    if let Some(place) = replay(alloc, &mut kernel, text.events)? {
-        return Ok(Verdict::No {
-            line: place as u32 + 2,
-        });
-    }
-    match first_other_fate(&kernel, text.fates.as_slice()) {
-        Some(place) => Ok(Verdict::No {
-            line: (count + place) as u32 + 2,
-        }),
-        None => Ok(Verdict::Yes),
+    match &text.replay {
+        Replay::Going(kernel) => match first_other_fate(kernel, text.fates.as_slice()) {
+            Some(place) => Verdict::No {
+                line: (kernel.journal().len() + place) as u32 + 2,
+            },
+            None => Verdict::Yes,
+        },
+        Replay::Stopped { place } => Verdict::No {
+            line: *place as u32 + 2,
+        },
     }
 }
 
@@ -102,8 +95,5 @@ pub fn check_trace(alloc: Global, bytes: &[u8]) -> Result<Verdict, TraceError>
         → (result ≡ Ok Verdict.Yes) ⊎ (result ≡ Err TraceError.Memory) }
 {
     let text = read_text(alloc, bytes)?;
-    match judge(alloc, text) {
-        Ok(verdict) => Ok(verdict),
-        Err(NoMemory) => Err(TraceError::Memory),
-    }
+    Ok(judge(&text))
 }

@@ -4,8 +4,8 @@
 mod check;
 mod error;
 mod event;
-mod journal;
 mod laws;
+mod replay;
 mod text;
 
 pub use check::{Verdict, check_trace};

@@ -12,11 +12,12 @@ returns-in_err-text-clause-complete c = λ t.
     let is : c.from_residual.result ≡ Err c.in_err-text.field-0.0 = cc in
     only-memory c.from_residual.result c.in_err-text.field-0.0 c.args.bytes.now is (λ line e. c.in_err-text.ensures.malformed line (ap Err e)) t
 
-pub returns-in-Ok-clause-form : goal.returns-in-Ok-clause-form
-returns-in-Ok-clause-form c =
-    rw c.in_ok-text.ensures.text (told-form c.in_ok-text.text.events.items c.in_ok-text.text.fates.items c.in_ok-text.ensures.events c.in_ok-text.ensures.fates)
+pub returns-clause-form : goal.returns-clause-form
+returns-clause-form c =
+    let h = c.in_ok-text.ensures.text in
+    rw h.is (told-form h.events c.in_ok-text.text.fates.items h.told h.fates)
 
-pub returns-in-Ok-clause-complete : goal.returns-in-Ok-clause-complete
-returns-in-Ok-clause-complete c = λ t.
-    only-yes (Ok c.in-Ok.verdict) c.in-Ok.verdict c.args.bytes.now refl
-    (λ line e. rw c.in_ok-text.ensures.text (c.in-Ok.ensures.no line (ap Ok e))) t
+pub returns-clause-complete : goal.returns-clause-complete
+returns-clause-complete c = λ t.
+    let h = c.in_ok-text.ensures.text in
+    only-yes (Ok c.judge.result) c.judge.result c.args.bytes.now refl (λ line e. c.judge.ensures.no line e c.args.bytes.now h) t
