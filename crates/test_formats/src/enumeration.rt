@@ -10,7 +10,7 @@ use usb_enum::{
     AttrTree, DeviceInfo, DeviceSelector, HotplugEvent, InterfaceInfo, StringDescriptor,
     list_buses, request_device,
 };
-use usb_enum_sysfs::read_decimal;
+use usb_enum_sysfs::{Speed, read_decimal};
 use usb_error::Error;
 
 /// Texts, and what they are in hexadecimal and in decimal digits and as speeds; and what is told
@@ -79,6 +79,24 @@ const ATTRIBUTES: &str = "\
 /p/usb1 bDeviceClass=00
 /p/usb1 bDeviceSubClass=00
 /p/usb1 bDeviceProtocol=00";
+
+/// Whether a speed is less than each that is faster.
+fn is_ascending(speeds: &[Speed]) -> bool {
+    speeds.windows(2).all(|pair| pair[0] < pair[1])
+}
+
+#[test]
+fn a_slower_speed_is_less_than_a_faster_one(rt: HostRuntime) -> Result<(), Fail> {
+    let speeds = [
+        Speed::Low,
+        Speed::Full,
+        Speed::High,
+        Speed::Super,
+        Speed::SuperPlus,
+    ];
+    assert!(rt; is_ascending(&speeds));
+    Ok(())
+}
 
 /// Sets an attribute, whose line is `FOLDER NAME=VALUE`.
 fn set_attribute(tree: &mut AttrTree, line: &str) -> Result<(), NoMemory> {
